@@ -1,0 +1,17 @@
+-- The worked cases of rounding: each is computed.
+-- Assumes nothing.
+use mathlib.Core.Path.{refl}
+use Rattle.rounding.specs.Result.{nearestEven}
+use Rattle.rounding.specs.Cases.{Cases}
+
+pub cases : Cases
+unfolding nearestEven
+cases =
+    record {
+      rounds1000500 = refl;
+      rounds1001500 = refl;
+      meanOf800And801 = refl;
+      fiftyUnder1050 = refl;
+      eachReadingRounded = refl;
+      fiftyAnd1500 = refl;
+    }

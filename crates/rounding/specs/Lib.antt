@@ -1,0 +1,3 @@
+pub mod Result
+pub mod Nearest
+pub mod Cases

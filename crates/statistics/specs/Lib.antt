@@ -1,0 +1,3 @@
+pub mod Spread
+pub mod SampleSize
+pub mod Cases
