@@ -1,0 +1,5 @@
+pub mod Finer
+pub mod MarksFiner
+pub mod Patterns
+pub mod Next
+pub mod Cases
