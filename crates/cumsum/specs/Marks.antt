@@ -25,6 +25,13 @@ abbrev pub marks : ℕ → List Test → List Mark
 marks k [] = []
 marks k (x ∷ history) = mark k (x ∷ history) ∷ marks k history
 
+-- how a mark is written: '-', 'O', 'U', '?'
+abbrev pub markByte : Mark → ℕ
+markByte Unmarked = 45
+markByte Over = 79
+markByte Under = 85
+markByte Undecided = 63
+
 abbrev pub isOver : Mark → Bool
 isOver Unmarked = false
 isOver Over = true

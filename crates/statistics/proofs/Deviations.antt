@@ -41,6 +41,11 @@ module _ (k i v : ℕ) (two : 2 ≤ i) where
   unfolding deviation
   deviation-root = root-quotient (i * (i - 1)) (divisor-pos i two) (k * k * v)
 
+-- without variation the deviation is 0, and exactly so
+pub deviation-none : (k i : ℕ) → deviation k i 0 ≡ record { floor = 0; inexact = 0 }
+unfolding deviation root inexactness largest
+deviation-none k i = simp (mul-zero, zero-mul)
+
 -- before engine 2 there is no spread
 pub variation-early : (history : List Test) → length history ≤ 1 → variation history ≡ 0
 unfolding variation
@@ -49,8 +54,7 @@ variation-early (x ∷ []) few = omega arith
 variation-early (x ∷ y ∷ h) few = absurd (not-suc-le-zero (le-of-suc-le-suc few))
 
 pub deviation-early : (k : ℕ) (history : List Test) → length history ≤ 1 → deviationOf k history ≡ record { floor = 0; inexact = 0 }
-unfolding deviation root inexactness largest
-deviation-early k history few = simp (variation-early history few, mul-zero, zero-mul)
+deviation-early k history few = rw (variation-early history few) (deviation-none k (length history))
 
 -- s to s + e at k × m, beside m times the same at k
 pub record FinerDeviation (m : ℕ) (coarse finer : Deviation) : Type 0 where

@@ -1,0 +1,90 @@
+-- Work at m beside the calculator's work, for a year: the marks in printed order, the verdict, the intervals.
+-- Assumes nothing.
+use mathlib.Core.Path.{_≡_, refl, ap, _∙_}
+use mathlib.Core.Logic.{_≢_}
+use mathlib.Core.Bool.{Bool, true, false, cond, _||_, So, false≢true}
+use mathlib.Core.List.{List, [], _∷_, _++_, Forall₂, Forall₂·nil, Forall₂·cons}
+use Prim.Native.Nat.{ℕ, suc, _*_, _-_, _≤_}
+use native.Mathlib.Omega.{arith}
+use lib.ListN.{length, drop, length-drop}
+use Rattle.buffers.specs.Rows.{Row, first}
+use Rattle.statistics.specs.Spread.{Test}
+use Rattle.cumsum.specs.declared.Mark.{Mark}
+use Rattle.cumsum.specs.Intervals.{cumsum, actionLimit}
+use Rattle.cumsum.specs.Marks.{marks, failed, undecided}
+use Rattle.cumsum.specs.FinerWork.{Width}
+use Rattle.cumsum.proofs.Finer.{inside-within, cumsum-inside, limit-inside, cumsum-width, limit-width}
+use Rattle.cumsum.proofs.MarksFiner.{Refined, mark-refined, marks-refined, refined-lists}
+use Rattle.cumsum.proofs.Patterns.{or-map, or-exchange, failed-stays, open-was}
+use Rattle.year.specs.declared.Setup.{Setup}
+use Rattle.year.specs.declared.Event.{Event}
+use Rattle.year.specs.Setup.{Pollutant, Hcnox, Co}
+use Rattle.year.specs.Replay.{Tested, Progress, replay, history}
+use Rattle.year.specs.Verdict.{verdict, verdictRows}
+use Rattle.year.specs.Status.{printedMarks}
+use Rattle.year.specs.FinerWork.{FinerWork, atEngine}
+
+-- lists that are related place by place, one after the other
+related-append : {R : Mark → Mark → Type 0} {l l′ n n′ : List Mark} → Forall₂ R l l′ → Forall₂ R n n′ → Forall₂ R (l ++ n) (l′ ++ n′)
+related-append Forall₂·nil s = s
+related-append (Forall₂·cons a r) s = Forall₂·cons a (related-append r s)
+
+-- The rows of the verdict that look at marks, by their tests alone.
+rows-finer : (declared f u f′ u′ : Bool) (rest : ℕ) → (So f → So f′) → (So (f′ || u′) → So (f || u)) → cond declared 7 (cond f 6 (cond u 5 rest)) ≢ 5
+    → cond declared 7 (cond f′ 6 (cond u′ 5 rest)) ≡ cond declared 7 (cond f 6 (cond u 5 rest))
+rows-finer true f u f′ u′ rest a b n = refl
+rows-finer false true u true u′ rest a b n = refl
+rows-finer false true u false u′ rest a b n = absurd (false≢true (a refl))
+rows-finer false false true f′ u′ rest a b n = absurd (n refl)
+rows-finer false false false true u′ rest a b n = absurd (false≢true (b refl))
+rows-finer false false false false true rest a b n = absurd (false≢true (b refl))
+rows-finer false false false false false rest a b n = refl
+
+module _ (m : ℕ) (pos : 1 ≤ m) where
+  printed-refined : (xs : List Tested) → Forall₂ Refined (printedMarks 1024 xs) (printedMarks (1024 * m) xs)
+  printed-refined [] = Forall₂·nil
+  printed-refined (x ∷ xs) =
+      related-append (printed-refined xs)
+      (Forall₂·cons (mark-refined 1024 m pos (history Hcnox (x ∷ xs)))
+      (Forall₂·cons (mark-refined 1024 m pos (history Co (x ∷ xs))) Forall₂·nil))
+
+  -- only the rows 6 and 5 depend on the resolution; the rest is the same at any
+  verdict-kept : (p : Progress) → verdict 1024 p ≢ 5 → verdict (1024 * m) p ≡ verdict 1024 p
+  unfolding verdict
+  verdict-kept p =
+      rows-finer (p .declared)
+      (failed (at 1024 Hcnox) || failed (at 1024 Co)) (undecided (at 1024 Hcnox) || undecided (at 1024 Co))
+      (failed (at (1024 * m) Hcnox) || failed (at (1024 * m) Co)) (undecided (at (1024 * m) Hcnox) || undecided (at (1024 * m) Co))
+      _
+      (or-map (failed-stays (refined Hcnox)) (failed-stays (refined Co)))
+      (λ t. rw (or-exchange (failed (at 1024 Hcnox)) (failed (at 1024 Co)))
+      (or-map (open-was (refined Hcnox)) (open-was (refined Co)) (rw (or-exchange (failed (at (1024 * m) Hcnox)) (failed (at (1024 * m) Co))) at t)))
+    where
+      at : ℕ → Pollutant → List Mark
+      at k q = marks k (history q (p .tested))
+
+      refined : (q : Pollutant) → Forall₂ Refined (at 1024 q) (at (1024 * m) q)
+      refined q = marks-refined 1024 m pos (history q (p .tested))
+
+history-length : (q : Pollutant) (xs : List Tested) → length (history q xs) ≡ length xs
+history-length q [] = refl
+history-length q (x ∷ xs) = ap suc (history-length q xs)
+
+-- the year at engine n has n engines
+at-length : (n : ℕ) (q : Pollutant) (p : Progress) → n ≤ length (p .tested) → length (atEngine n q p) ≡ n
+at-length n q p few = history-length q (drop (length (p .tested) - n) (p .tested)) ∙ rw length-drop (omega arith)
+
+pub finer-progress : (m : ℕ) → 1 ≤ m → (p : Progress) → FinerWork m p
+finer-progress m pos p =
+    record {
+      marks = refined-lists (printed-refined m pos (p .tested));
+      verdictKept = verdict-kept m pos p;
+      cumsumWithin = λ q n _ _. inside-within 1024 m _ _ (cumsum-inside 1024 m (atEngine n q p));
+      limitWithin = λ q n _ _. inside-within 1024 m _ _ (limit-inside 1024 m (atEngine n q p));
+      cumsumWidth = λ q n _ few. rw (at-length n q p few) at (cumsum-width 1024 (atEngine n q p));
+      limitWidth = λ q n _ _. limit-width 1024 (atEngine n q p);
+    }
+
+-- for every setup, every list of events and every m from 1 up
+pub finer-work : (s : Setup) (es : List Event) (m : ℕ) → 1 ≤ m → FinerWork m (replay s es)
+finer-work s es m pos = finer-progress m pos (replay s es)

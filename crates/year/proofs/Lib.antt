@@ -1,0 +1,4 @@
+pub mod Finer
+pub mod Valid
+pub mod Amended
+pub mod Cases

@@ -1,0 +1,56 @@
+-- Which events could have been entered, and in which order (document 01, "The book", with the ranges of "From reading to result" and the conditions of
+-- its refusals 5, 8, 9, 10, 11, 13, 14 and 15). "each result from 0 to 20,000 being allowed, whether or not some reading yields it"
+-- Assumes nothing.
+use mathlib.Core.Bool.{Bool, true, not, _&&_, _||_}
+use mathlib.Core.List.{List, [], _∷_}
+use Prim.Native.Nat.{ℕ}
+use lib.Dec.{eqb, ltb}
+use lib.ListN.{length}
+use Rattle.buffers.specs.Rows.{within}
+use Rattle.rounding.specs.Result.{countInRange, resultInRange}
+use Rattle.year.specs.declared.Pair.{Pair}
+use Rattle.year.specs.declared.Setup.{Setup}
+use Rattle.year.specs.declared.Event.{Event}
+use Rattle.year.specs.declared.Event.the-variants.{Engine, Amendment, NextPeriod, Declaration}
+use Rattle.year.specs.Setup.{of, both, standardsInRange, setupInRange}
+use Rattle.year.specs.Periods.{periods}
+use Rattle.year.specs.Replay.{Progress, replay, short, isTested}
+use Rattle.year.specs.Verdict.{verdict}
+
+-- "The verdict is 6 or 7": the calculator's, at resolution 1,024
+unfoldable pub closed : Progress → Bool
+closed p = eqb (verdict 1024 p) 6 || eqb (verdict 1024 p) 7
+
+-- "64 events are stored", "Forty engines are stored"
+abbrev pub eventsFull : Progress → Bool
+eventsFull p = eqb (p .stored) 64
+
+abbrev pub enginesFull : Progress → Bool
+enginesFull p = eqb (length (p .tested)) 40
+
+-- an engine number from 1 to 65,535 that is not in the year yet
+abbrev pub numberFree : Progress → ℕ → Bool
+numberFree p number = within 1 65535 number && not (isTested number (p .tested))
+
+abbrev pub resultsInRange : Pair → Bool
+resultsInRange results = both (λ q. resultInRange (of q results))
+
+-- the next period: not in the last one, nor while the current one is short
+abbrev pub lastPeriod : Progress → Bool
+lastPeriod p = eqb (p .period) (periods (p .setup .volume) (p .setup .days))
+
+-- what an event asks for by its kind
+abbrev pub fits : Progress → Event → Bool
+fits p (Engine number readings results) = numberFree p number && countInRange readings && resultsInRange results && not (enginesFull p)
+fits p (Amendment standards) = standardsInRange standards
+fits p NextPeriod = not (lastPeriod p || short p)
+fits p Declaration = true
+
+-- the event could be entered now
+unfoldable pub admissible : Progress → Event → Bool
+admissible p e = not (closed p) && not (eventsFull p) && fits p e
+
+-- the setup is in range, and each event could be entered after those before it
+abbrev pub valid : Setup → List Event → Bool
+valid s [] = setupInRange s
+valid s (e ∷ es) = valid s es && admissible (replay s es) e

@@ -1,0 +1,71 @@
+-- Worked cases of a year beside document 01's starred ones: its two on one percent, its printed run, n = N, an amendment, and what may follow what.
+-- Events are listed with the newest first.
+-- Assumes nothing.
+use mathlib.Core.Path.{_≡_}
+use mathlib.Core.Bool.{true, false}
+use mathlib.Core.List.{List, [], _∷_}
+use Prim.Native.Nat.{ℕ, _*_}
+use Rattle.rounding.specs.Cases.{noFactor}
+use Rattle.statistics.specs.declared.SampleSize.the-variants.{Tenths, Absent}
+use Rattle.statistics.specs.Cases.{exactly}
+use Rattle.cumsum.specs.declared.Mark.the-variants.{Unmarked, Over, Under, Undecided}
+use Rattle.cumsum.specs.Cases.{from}
+use Rattle.year.specs.declared.Pair.{Pair}
+use Rattle.year.specs.declared.Setup.{Setup}
+use Rattle.year.specs.declared.Event.{Event}
+use Rattle.year.specs.declared.Event.the-variants.{Engine, Amendment, NextPeriod, Declaration}
+use Rattle.year.specs.declared.Status.{Status}
+use Rattle.year.specs.Periods.{periods}
+use Rattle.year.specs.Replay.{Progress, replay}
+use Rattle.year.specs.Verdict.{verdict, onePercent}
+use Rattle.year.specs.Admissible.{valid}
+use Rattle.year.specs.Status.{status, printedMarks}
+
+abbrev pub pair : ℕ → ℕ → Pair
+pair hcnox co = record { hcnox = hcnox; co = co }
+
+-- projected volume P over 365 days, the HC+NOx standard, a CO standard of 6,100, and factors that change nothing
+abbrev pub setupOf : ℕ → ℕ → Setup
+setupOf volume standard =
+    record { volume = volume; days = 365; standards = pair standard 6100; factors = record { hcnox = noFactor; co = noFactor } }
+
+-- an engine of one reading each, with CO 5,000
+abbrev pub engine : ℕ → ℕ → Event
+engine number result = Engine number 1 (pair result 5000)
+
+-- T 800, X 998 then 1,071, P 5,000
+abbrev pub two : Progress
+two = replay (setupOf 5000 800) (engine 2 1071 ∷ engine 1 998 ∷ [])
+
+-- T 100, X 500 three times
+abbrev pub three : List Event
+three = engine 3 500 ∷ engine 2 500 ∷ engine 1 500 ∷ []
+
+-- T 1,000, X twice, P 1,500
+abbrev pub twice : ℕ → Progress
+twice result = replay (setupOf 1500 1000) (engine 2 result ∷ engine 1 result ∷ [])
+
+pub record Cases : Type 0 where
+  -- One percent of 250 is 2, of 350 is 4
+  pub onePercentOf250 : onePercent 250 ≡ 2
+  pub onePercentOf350 : onePercent 350 ≡ 4
+  -- T 100, X 500 three times: two marks per engine, HC+NOx then CO
+  pub printedOfThree : printedMarks 1024 (replay (setupOf 5000 100) three .tested) ≡ Unmarked ∷ Unmarked ∷ Over ∷ Under ∷ Over ∷ Under ∷ []
+  -- the printed run: short with no engine and with one, continue with two, declared
+  pub verdictOfNone : verdict 1024 (replay (setupOf 5000 800) []) ≡ 0
+  pub verdictOfOne : verdict 1024 (replay (setupOf 5000 800) (engine 1 998 ∷ [])) ≡ 0
+  pub verdictOfTwo : verdict 1024 two ≡ 1
+  pub verdictDeclared : verdict 1024 (replay (setupOf 5000 800) (Declaration ∷ engine 2 1071 ∷ engine 1 998 ∷ [])) ≡ 7
+  -- n = N is no stop: standard 100, results 23, 23, 83, 83, N is exactly 4
+  pub verdictAtN : verdict 1024 (replay (setupOf 5000 100) (engine 4 83 ∷ engine 3 83 ∷ engine 2 23 ∷ engine 1 23 ∷ [])) ≡ 1
+  -- one percent of 150 is 2 (1.5): with two engines, verdict 4
+  pub verdictAtOnePercent : verdict 1024 (replay (setupOf 150 1000) (engine 2 1000 ∷ engine 1 1000 ∷ [])) ≡ 4
+  -- a new period is short again
+  pub verdictOfNewPeriod : verdict 1024 (replay (setupOf 5000 1000) (NextPeriod ∷ engine 2 1000 ∷ engine 1 1000 ∷ [])) ≡ 0
+  -- an amendment to 10 leaves two engines under 1,000 where they were: verdict 2 stays, and N stays 1
+  pub verdictAmended : verdict 1024 (replay (setupOf 1500 1000) (Amendment (pair 10 10) ∷ engine 2 800 ∷ engine 1 800 ∷ [])) ≡ 2
+  -- nothing follows a failure, no number comes twice, and no period follows a short one
+  pub failedIsClosed : valid (setupOf 5000 100) (NextPeriod ∷ three) ≡ false
+  pub threeIsValid : valid (setupOf 5000 100) three ≡ true
+  pub numberTwice : valid (setupOf 5000 1000) (engine 1 900 ∷ engine 1 800 ∷ []) ≡ false
+  pub shortPeriod : valid (setupOf 5000 1000) (NextPeriod ∷ engine 1 800 ∷ []) ≡ false

@@ -1,0 +1,10 @@
+pub mod Setup
+pub mod Periods
+pub mod Replay
+pub mod Verdict
+pub mod Admissible
+pub mod Status
+pub mod Model
+pub mod FinerWork
+pub mod Cases
+pub mod StarredCases

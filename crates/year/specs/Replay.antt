@@ -1,0 +1,75 @@
+-- What a setup and its events amount to: every figure of document 01 is worked from this, and none looks at the events themselves.
+-- Events and tested engines are listed with the newest first.
+-- Assumes nothing.
+use mathlib.Core.Bool.{Bool, true, false, cond, _||_}
+use mathlib.Core.List.{List, [], _∷_}
+use Prim.Native.Nat.{ℕ, _+_}
+use lib.Dec.{eqb, ltb}
+use Rattle.statistics.specs.Spread.{Test}
+use Rattle.year.specs.declared.Pair.{Pair}
+use Rattle.year.specs.declared.Setup.{Setup}
+use Rattle.year.specs.declared.Event.{Event}
+use Rattle.year.specs.declared.Event.the-variants.{Engine, Amendment, NextPeriod, Declaration}
+use Rattle.year.specs.Setup.{Pollutant, of}
+use Rattle.year.specs.Periods.{needs}
+
+-- a tested engine: its number and results, "the standard in force when [it] was entered" for each pollutant, and its period
+pub record Tested : Type 0 where
+  pub number : ℕ
+  pub results : Pair
+  pub standards : Pair
+  pub period : ℕ
+
+-- the setup, the standards in force, the current period, the engines tested, how many events are stored, whether a declaration was made
+pub record Progress : Type 0 where
+  pub setup : Setup
+  pub standards : Pair
+  pub period : ℕ
+  pub tested : List Tested
+  pub stored : ℕ
+  pub declared : Bool
+
+-- a setup with no events
+abbrev pub start : Setup → Progress
+start s = record { setup = s; standards = s .standards; period = 1; tested = []; stored = 0; declared = false }
+
+-- one event more. "An amendment .. sets T for later engines."
+abbrev pub after : Event → Progress → Progress
+after (Engine number readings results) p =
+    record {
+      setup = p .setup;
+      standards = p .standards;
+      period = p .period;
+      tested = record { number = number; results = results; standards = p .standards; period = p .period } ∷ p .tested;
+      stored = p .stored + 1;
+      declared = p .declared;
+    }
+after (Amendment standards) p =
+    record { setup = p .setup; standards = standards; period = p .period; tested = p .tested; stored = p .stored + 1; declared = p .declared }
+after NextPeriod p =
+    record { setup = p .setup; standards = p .standards; period = p .period + 1; tested = p .tested; stored = p .stored + 1; declared = p .declared }
+after Declaration p =
+    record { setup = p .setup; standards = p .standards; period = p .period; tested = p .tested; stored = p .stored + 1; declared = true }
+
+abbrev pub replay : Setup → List Event → Progress
+replay s [] = start s
+replay s (e ∷ es) = after e (replay s es)
+
+-- the tested engines as one pollutant sees them
+abbrev pub history : Pollutant → List Tested → List Test
+history q [] = []
+history q (x ∷ xs) = record { result = of q (x .results); standard = of q (x .standards) } ∷ history q xs
+
+-- how many engines were tested in a period
+abbrev pub testedIn : ℕ → List Tested → ℕ
+testedIn period [] = 0
+testedIn period (x ∷ xs) = cond (eqb (x .period) period) 1 0 + testedIn period xs
+
+-- "the current period lacks its engines"
+abbrev pub short : Progress → Bool
+short p = ltb (testedIn (p .period) (p .tested)) (needs (p .period))
+
+-- whether an engine of this number is among the tested
+abbrev pub isTested : ℕ → List Tested → Bool
+isTested number [] = false
+isTested number (x ∷ xs) = eqb (x .number) number || isTested number xs

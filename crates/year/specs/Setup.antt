@@ -1,0 +1,48 @@
+-- Document 01, "The year that a book holds": one family, one model year, two pollutants; and the ranges of a setup.
+-- Assumes nothing.
+use mathlib.Core.Bool.{Bool, _&&_, _||_}
+use Prim.Native.Nat.{ℕ, _%_}
+use lib.Dec.{eqb}
+use Rattle.buffers.specs.Rows.{within}
+use Rattle.rounding.specs.declared.Factor.{Factor}
+use Rattle.rounding.specs.Result.{factorInRange}
+use Rattle.year.specs.declared.Pair.{Pair}
+use Rattle.year.specs.declared.Setup.{Setup}
+
+-- "two pollutants: HC+NOx and CO"
+pub data Pollutant : Type 0 where
+  Hcnox : Pollutant
+  Co : Pollutant
+
+-- a pollutant's part of a pair, and of a setup's factors
+abbrev pub of : Pollutant → Pair → ℕ
+of Hcnox pair = pair .hcnox
+of Co pair = pair .co
+
+abbrev pub factorOf : Pollutant → Setup → Factor
+factorOf Hcnox setup = setup .factors .hcnox
+factorOf Co setup = setup .factors .co
+
+-- a test of both pollutants, and of one of them
+abbrev pub both : (Pollutant → Bool) → Bool
+both test = test Hcnox && test Co
+
+abbrev pub either : (Pollutant → Bool) → Bool
+either test = test Hcnox || test Co
+
+-- "Standards are whole result units, multiples of ten, 10 to 20,000."
+abbrev pub standardInRange : ℕ → Bool
+standardInRange t = within 10 20000 t && eqb (t % 10) 0
+
+abbrev pub standardsInRange : Pair → Bool
+standardsInRange standards = both (λ q. standardInRange (of q standards))
+
+-- "Projected volume P is 1 to 99,999,999, production days D 1 to 366." (document 01, "Periods")
+abbrev pub volumeInRange : Setup → Bool
+volumeInRange setup = within 1 99999999 (setup .volume) && within 1 366 (setup .days)
+
+abbrev pub factorsInRange : Setup → Bool
+factorsInRange setup = both (λ q. factorInRange (factorOf q setup))
+
+abbrev pub setupInRange : Setup → Bool
+setupInRange setup = volumeInRange setup && standardsInRange (setup .standards) && factorsInRange setup

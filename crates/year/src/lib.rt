@@ -1,0 +1,55 @@
+// The model year of one engine family: what was set up, what was entered, and the figures of a status.
+use cumsum::Interval;
+use cumsum::Mark;
+use rounding::Factor;
+use statistics::Deviation;
+use statistics::SampleSize;
+
+// A number for each pollutant: results, or standards, in result units.
+pub struct Pair {
+    pub hcnox: u32,
+    pub co: u32,
+}
+
+// A factor for each pollutant.
+pub struct Factors {
+    pub hcnox: Factor,
+    pub co: Factor,
+}
+
+// Projected volume P, production days D, the first standards, the factors. Any values: whether they are in range is asked by a definition.
+pub struct Setup {
+    pub volume: u32,
+    pub days: u32,
+    pub standards: Pair,
+    pub factors: Factors,
+}
+
+// What is stored of an accepted entry. `readings` is the number of readings for each pollutant.
+pub enum Event {
+    Engine {
+        number: u32,
+        readings: u32,
+        results: Pair,
+    },
+    Amendment(Pair),
+    NextPeriod,
+    Declaration,
+}
+
+// One pollutant of a status: S, s and e, both C, both H, N in tenths, and the newest mark.
+pub struct Figures {
+    pub sum: u64,
+    pub deviation: Deviation,
+    pub cumsum: Interval,
+    pub limit: Interval,
+    pub size: SampleSize,
+    pub mark: Mark,
+}
+
+pub struct Status {
+    pub n: u32,
+    pub verdict: u8,
+    pub hcnox: Figures,
+    pub co: Figures,
+}
