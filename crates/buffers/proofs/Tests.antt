@@ -1,17 +1,24 @@
--- Facts of tests: `cond`, `||` and `not`. (Those of `&&` are the library's, `and-eq-true-iff`.)
+-- Facts of tests: `cond`, `&&`, `||` and `not`.
 -- Assumes nothing.
 use mathlib.Core.Path.{_≡_, refl}
-use mathlib.Core.Bool.{Bool, true, false, cond, not, _||_, false≢true, true≢false}
+use mathlib.Core.Bool.{Bool, true, false, cond, not, _&&_, _||_, true≢false, and-eq-true-iff}
 
 -- to prove a fact of `cond b x y`, prove it of x where b is true and of y where b is false
 pub by-test {ℓ} : {A : Type 0} (P : A → Type ℓ) (b : Bool) (x y : A) → (b ≡ true → P x) → (b ≡ false → P y) → P (cond b x y)
 by-test P true x y f g = f refl
 by-test P false x y f g = g refl
 
+-- a conjunction from its two parts. (The parts from a conjunction are the library's `and-eq-true-iff`.)
+pub and-true : {a b : Bool} → a ≡ true → b ≡ true → (a && b) ≡ true
+and-true {a} {b} h k = and-eq-true-iff a b .1 (h, k)
+
 -- both parts of a disjunction that fails
 pub or-false : (a b : Bool) → (a || b) ≡ false → (a ≡ false) × (b ≡ false)
 or-false true b h = absurd (true≢false h)
 or-false false b h = (refl, h)
+
+pub false-not : {a : Bool} → a ≡ false → not a ≡ true
+false-not h = rw h
 
 pub not-false : (a : Bool) → not a ≡ false → a ≡ true
 not-false true h = refl

@@ -1,3 +1,4 @@
+pub mod Replayed
 pub mod Finer
 pub mod Valid
 pub mod Amended

@@ -1,0 +1,80 @@
+-- What each call gives back, and every byte that it leaves in the lent buffers (document 01, "The book" and "Refused calls, in checking order").
+-- Assumes nothing.
+use mathlib.Core.Bool.{cond}
+use mathlib.Core.List.{List, [], map}
+use Prim.Native.Nat.{ℕ}
+use lib.Dec.{eqb}
+use lib.ListN.{length}
+use Rattle.buffers.specs.Bytes.{put}
+use Rattle.cumsum.specs.Marks.{markByte}
+use Rattle.year.specs.declared.Setup.{Setup}
+use Rattle.year.specs.declared.Status.{Status}
+use Rattle.year.specs.Replay.{replay}
+use Rattle.year.specs.Status.{blank, status, printedMarks}
+use Rattle.year.specs.Model.{Model, NoSetup, Year}
+use Rattle.journal.specs.Encode.{encode, append}
+use Rattle.journal.specs.Read.{readJournal}
+use Rattle.calls.specs.declared.Answer.{Answer}
+use Rattle.calls.specs.declared.Answer.the-variants.{Accepted, Refused}
+use Rattle.calls.specs.Call.{Entry, Call, SetUp, Enter, ReadStatus, WriteMarks, eventOf}
+use Rattle.calls.specs.Refusals.{refusal}
+
+-- the refusal of a call on a lent journal of any length and content, 0 for none
+abbrev pub refusalOn : Call → List ℕ → ℕ
+refusalOn call journal = refusal (length journal) call (readJournal journal)
+
+-- a value where the call is accepted, and one where it is refused
+module _ {A : Type 0} where
+  abbrev pub ifAccepted : Call → List ℕ → A → A → A
+  ifAccepted call journal accepted refused = cond (eqb (refusalOn call journal) 0) accepted refused
+
+-- "Each other entry writes its slot and byte 24"
+abbrev pub withEntry : Entry → Model → List ℕ → List ℕ
+withEntry entry NoSetup journal = journal
+withEntry entry (Year s es) journal = append journal (eventOf s entry)
+
+-- "Setup takes a buffer of any content and writes all of it." Status and marks write nothing in it
+abbrev pub written : Call → List ℕ → List ℕ
+written (SetUp s) journal = encode s []
+written (Enter entry) journal = withEntry entry (readJournal journal) journal
+written ReadStatus journal = journal
+written (WriteMarks size) journal = journal
+
+-- the journal after a call: what it writes, or where it is refused what it was
+unfoldable pub journalAfter : Call → List ℕ → List ℕ
+journalAfter call journal = ifAccepted call journal (written call journal) journal
+
+-- "every other figure of the answer zero, marks '-', N absent"
+abbrev pub noStatus : Status
+noStatus = record { n = 0; verdict = 0; hcnox = blank 0; co = blank 0 }
+
+-- the status of a year, at the calculator's resolution of 1,024
+abbrev pub statusOf : Model → Status
+statusOf NoSetup = noStatus
+statusOf (Year s es) = status 1024 (replay s es)
+
+-- "An accepted setup or entry returns the status of the book that it leaves", and status that of the book that it reads. "A refusal returns its number"
+unfoldable pub answer : Call → List ℕ → Answer
+answer call journal = ifAccepted call journal (Accepted (statusOf (readJournal (journalAfter call journal)))) (Refused (refusalOn call journal))
+
+-- document 01's refusal number and figures for each case of an answer
+pub record Told : Type 0 where
+  pub refusal : ℕ
+  pub status : Status
+
+abbrev pub answerOf : Answer → Told
+answerOf (Accepted s) = record { refusal = 0; status = s }
+answerOf (Refused number) = record { refusal = number; status = noStatus }
+
+-- the bytes of the marks, "two marks per engine, HC+NOx then CO"
+abbrev pub markBytes : Model → List ℕ
+markBytes NoSetup = []
+markBytes (Year s es) = map markByte (printedMarks 1024 (replay s es .tested))
+
+-- "The strip call writes [them] at the front of a lent buffer": the whole buffer after the call
+unfoldable pub outAfter : List ℕ → List ℕ → List ℕ
+outAfter journal out = ifAccepted (WriteMarks (length out)) journal (put out 0 (markBytes (readJournal journal))) out
+
+-- "and hands back just that written part of the buffer", or "an empty part" where it is refused
+unfoldable pub marksPart : List ℕ → List ℕ → List ℕ
+marksPart journal out = ifAccepted (WriteMarks (length out)) journal (markBytes (readJournal journal)) []

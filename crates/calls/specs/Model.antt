@@ -1,0 +1,54 @@
+-- Document 01, "The plain year of a list of calls": the reference model ("plain year"), fed the arguments of calls alone.
+-- Assumes nothing.
+use mathlib.Core.Bool.{cond}
+use mathlib.Core.List.{List, [], _∷_}
+use Prim.Native.Nat.{ℕ, _*_}
+use lib.Dec.{eqb}
+use Rattle.cumsum.specs.declared.Interval.{Interval}
+use Rattle.cumsum.specs.declared.Mark.{Mark}
+use Rattle.cumsum.specs.Intervals.{cumsum, actionLimit}
+use Rattle.year.specs.declared.Setup.{Setup}
+use Rattle.year.specs.declared.Event.{Event}
+use Rattle.year.specs.Setup.{Pollutant}
+use Rattle.year.specs.Replay.{replay, history}
+use Rattle.year.specs.Verdict.{verdict}
+use Rattle.year.specs.Status.{printedMarks}
+use Rattle.year.specs.Model.{Model, NoSetup, Year}
+use Rattle.calls.specs.Call.{Entry, Call, SetUp, Enter, ReadStatus, WriteMarks, eventOf}
+use Rattle.calls.specs.Refusals.{refusal}
+
+-- "Each other accepted entry adds its event at the end": the newest event comes first in the list
+abbrev pub withEvent : Entry → Model → Model
+withEvent entry NoSetup = NoSetup
+withEvent entry (Year s es) = Year s (eventOf s entry ∷ es)
+
+-- "An accepted setup becomes the setup, with no events."
+abbrev pub accepted : Call → Model → Model
+accepted (SetUp s) model = Year s []
+accepted (Enter entry) model = withEvent entry model
+accepted ReadStatus model = model
+accepted (WriteMarks size) model = model
+
+-- "A call is refused if a refusal above applies to its arguments and this state, read in the book's place. .. A refused call leaves the state."
+unfoldable pub stepModel : Call → Model → Model
+stepModel call model = cond (eqb (refusal 544 call model) 0) (accepted call model) model
+
+-- the state after a list of calls, of which the newest comes first
+abbrev pub modelOf : List Call → Model
+modelOf [] = NoSetup
+modelOf (call ∷ calls) = stepModel call (modelOf calls)
+
+-- "At m it has the marks, brackets and verdict that the definitions give for this setup and these events in work at m." An interval is that of the newest
+-- engine; "from engine 2 on, status gives" those at m = 1
+module _ (m : ℕ) (s : Setup) (es : List Event) where
+  abbrev pub marksAt : List Mark
+  marksAt = printedMarks (1024 * m) (replay s es .tested)
+
+  abbrev pub verdictAt : ℕ
+  verdictAt = verdict (1024 * m) (replay s es)
+
+  abbrev pub cumsumAt : Pollutant → Interval
+  cumsumAt q = cumsum (1024 * m) (history q (replay s es .tested))
+
+  abbrev pub limitAt : Pollutant → Interval
+  limitAt q = actionLimit (1024 * m) (history q (replay s es .tested))

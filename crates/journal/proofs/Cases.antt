@@ -1,0 +1,38 @@
+-- The worked cases of the stored journal: each is computed.
+-- Assumes nothing.
+use mathlib.Core.Path.{_≡_, refl}
+use Rattle.rounding.specs.Result.{nearestEven}
+use Rattle.statistics.specs.SampleSize.{sizeReached}
+use Rattle.cumsum.specs.Marks.{failed, undecided}
+use Rattle.buffers.specs.Bytes.{put}
+use Rattle.year.specs.Periods.{periods, needs}
+use Rattle.year.specs.Verdict.{verdict}
+use Rattle.year.specs.Admissible.{closed, admissible}
+use Rattle.journal.specs.Read.{readAs}
+use Rattle.journal.specs.Cases.{Cases}
+
+pub cases : Cases
+unfolding nearestEven sizeReached failed undecided put periods needs verdict closed admissible readAs
+cases =
+    record {
+      size = refl;
+      header = refl;
+      unused = refl;
+      engineSlot = refl;
+      amendmentSlot = refl;
+      periodSlot = refl;
+      declarationSlot = refl;
+      appended = refl;
+      readNone = refl;
+      readOne = refl;
+      readZeros = refl;
+      otherVersion = refl;
+      dirtyHeader = refl;
+      dirtyUnused = refl;
+      otherKind = refl;
+      tooLong = refl;
+      tooShort = refl;
+      resultAtMost = refl;
+      resultAbove = refl;
+      afterDeclaration = refl;
+    }

@@ -1,0 +1,48 @@
+-- Worked cases of the stored journal, on document 01's printed run.
+-- Assumes nothing.
+use mathlib.Core.Path.{_≡_}
+use mathlib.Core.List.{List, [], _∷_, _++_}
+use Prim.Native.Nat.{ℕ}
+use lib.ListN.{length, take, drop, set}
+use Rattle.buffers.specs.Bytes.{zeros}
+use Rattle.year.specs.declared.Event.{Event}
+use Rattle.year.specs.declared.Event.the-variants.{Amendment, NextPeriod, Declaration}
+use Rattle.year.specs.Model.{NoSetup, Year}
+use Rattle.year.specs.Cases.{pair, setupOf, engine}
+use Rattle.journal.specs.Encode.{encode, slotOf, append}
+use Rattle.journal.specs.Read.{readJournal}
+
+-- "S 5000 365 800 6100 0 0 0 0", and then "E 1 998000 5000000"
+abbrev pub none : List ℕ
+none = encode (setupOf 5000 800) []
+
+abbrev pub one : List ℕ
+one = encode (setupOf 5000 800) (engine 1 998 ∷ [])
+
+pub record Cases : Type 0 where
+  pub size : length none ≡ 544
+  -- bytes 0 to 31
+  pub header : take 32 none
+      ≡ 80 ∷ 76 ∷ 84 ∷ 1 ∷ 0 ∷ 0 ∷ 0 ∷ 0 ∷ 136 ∷ 19 ∷ 0 ∷ 0 ∷ 109 ∷ 1 ∷ 32 ∷ 3 ∷ 212 ∷ 23 ∷ 0 ∷ 0 ∷ 0 ∷ 0 ∷ 0 ∷ 0 ∷ 0 ∷ 0 ∷ 0 ∷ 0 ∷ 0 ∷ 0 ∷ 0 ∷ 0 ∷ []
+  pub unused : drop 32 none ≡ zeros 512
+  pub engineSlot : slotOf (engine 1 998) ≡ 1 ∷ 1 ∷ 230 ∷ 3 ∷ 136 ∷ 19 ∷ 1 ∷ 0 ∷ []
+  pub amendmentSlot : slotOf (Amendment (pair 800 6100)) ≡ 2 ∷ 0 ∷ 32 ∷ 3 ∷ 212 ∷ 23 ∷ 0 ∷ 0 ∷ []
+  pub periodSlot : slotOf NextPeriod ≡ 3 ∷ 0 ∷ 0 ∷ 0 ∷ 0 ∷ 0 ∷ 0 ∷ 0 ∷ []
+  pub declarationSlot : slotOf Declaration ≡ 4 ∷ 0 ∷ 0 ∷ 0 ∷ 0 ∷ 0 ∷ 0 ∷ 0 ∷ []
+  -- an entry writes its slot and byte 24
+  pub appended : append none (engine 1 998) ≡ one
+  -- what was stored is read back; zeros are no journal
+  pub readNone : readJournal none ≡ Year (setupOf 5000 800) []
+  pub readOne : readJournal one ≡ Year (setupOf 5000 800) (engine 1 998 ∷ [])
+  pub readZeros : readJournal (zeros 544) ≡ NoSetup
+  -- refused: another version, an unnamed byte that is not zero, in the header and in a slot, a kind 5, one byte more or less
+  pub otherVersion : readJournal (set none 3 2) ≡ NoSetup
+  pub dirtyHeader : readJournal (set none 25 1) ≡ NoSetup
+  pub dirtyUnused : readJournal (set none 543 1) ≡ NoSetup
+  pub otherKind : readJournal (set one 32 5) ≡ NoSetup
+  pub tooLong : readJournal (none ++ (0 ∷ [])) ≡ NoSetup
+  pub tooShort : readJournal (take 543 none) ≡ NoSetup
+  -- a result of 20,000 is accepted, one of 20,001 is not; an engine after a declaration is not
+  pub resultAtMost : readJournal (encode (setupOf 5000 800) (engine 1 20000 ∷ [])) ≡ Year (setupOf 5000 800) (engine 1 20000 ∷ [])
+  pub resultAbove : readJournal (encode (setupOf 5000 800) (engine 1 20001 ∷ [])) ≡ NoSetup
+  pub afterDeclaration : readJournal (encode (setupOf 5000 800) (engine 1 998 ∷ Declaration ∷ [])) ≡ NoSetup

@@ -1,0 +1,55 @@
+-- Document 01, "The book": the 544 bytes of a setup and its events, little-endian. Events are listed with the newest first.
+-- Assumes nothing.
+use mathlib.Core.List.{List, [], _∷_, _++_}
+use Prim.Native.Nat.{ℕ, _+_, _-_, _*_}
+use lib.ListN.{length, getD}
+use Rattle.buffers.specs.Bytes.{put, zeros, bytes16, bytes32}
+use Rattle.year.specs.declared.Setup.{Setup}
+use Rattle.year.specs.declared.Event.{Event}
+use Rattle.year.specs.declared.Event.the-variants.{Engine, Amendment, NextPeriod, Declaration}
+
+-- the first 32 bytes, with the number of events
+abbrev pub header : Setup → ℕ → List ℕ
+header s count =
+    -- 0–2 "PLT"; 3–4 version 1; 5–7 zero
+    (80 ∷ 76 ∷ 84 ∷ []) ++ (bytes16 1 ++ (zeros 3
+    -- 8–11 P; 12–13 D
+    ++ (bytes32 (s .volume) ++ (bytes16 (s .days)
+    -- 14–15 and 16–17 the first standards, HC+NOx then CO
+    ++ (bytes16 (s .standards .hcnox) ++ (bytes16 (s .standards .co)
+    -- 18 and 19 factor kinds; 20–21 and 22–23 factors
+    ++ ((s .factors .hcnox .kind ∷ s .factors .co .kind ∷ []) ++ (bytes16 (s .factors .hcnox .value) ++ (bytes16 (s .factors .co .value)
+    -- 24 number of events; 25–31 zero
+    ++ (count ∷ zeros 7))))))))))
+
+-- the eight bytes of a slot: 0 the kind, 1 readings per pollutant, and the numbers at 2–3, 4–5 and 6–7
+abbrev pub slot : ℕ → ℕ → ℕ → ℕ → ℕ → List ℕ
+slot kind readings a b c = kind ∷ readings ∷ (bytes16 a ++ (bytes16 b ++ bytes16 c))
+
+-- "Unnamed bytes .. are zero."
+abbrev pub slotOf : Event → List ℕ
+-- 1, engine: byte 1 readings per pollutant, 2–3 and 4–5 the results, 6–7 the engine number
+slotOf (Engine number readings results) = slot 1 readings (results .hcnox) (results .co) number
+-- 2, amendment: 2–3 and 4–5 the new standards
+slotOf (Amendment standards) = slot 2 0 (standards .hcnox) (standards .co) 0
+-- 3, next period
+slotOf NextPeriod = slot 3 0 0 0 0
+-- 4, declaration
+slotOf Declaration = slot 4 0 0 0 0
+
+-- the slots in the order of entry
+abbrev pub slots : List Event → List ℕ
+slots [] = []
+slots (e ∷ es) = slots es ++ slotOf e
+
+-- "unused slots are zero"
+abbrev pub encode : Setup → List Event → List ℕ
+encode s es = header s (length es) ++ (slots es ++ zeros (512 - 8 * length es))
+
+-- "Slot j, from 0, is the eight bytes that start at 32 + 8 × j."
+abbrev pub slotPlace : ℕ → ℕ
+slotPlace j = 32 + 8 * j
+
+-- "Each other entry writes its slot and byte 24": slot j, where byte 24 has the number j of events so far, and then j + 1
+abbrev pub append : List ℕ → Event → List ℕ
+append journal e = put (put journal (slotPlace (getD journal 24 0)) (slotOf e)) 24 ((getD journal 24 0 + 1) ∷ [])

@@ -1,0 +1,51 @@
+-- Document 01, "The book": what a buffer of any length and content is read as. A setup and events are taken from the bytes, whatever they are; the journal is
+-- accepted exactly if these are the bytes of that setup and those events, and they could have been entered in that order.
+-- Assumes nothing.
+use mathlib.Core.Bool.{cond, _&&_}
+use mathlib.Core.List.{List, [], _∷_}
+use Prim.Native.Nat.{ℕ, zero, suc}
+use lib.Dec.{eqb}
+use lib.ListN.{getD, drop}
+use Rattle.buffers.specs.Bytes.{number16, number32, same}
+use Rattle.year.specs.declared.Setup.{Setup}
+use Rattle.year.specs.declared.Event.{Event}
+use Rattle.year.specs.declared.Event.the-variants.{Engine, Amendment, NextPeriod, Declaration}
+use Rattle.year.specs.Admissible.{valid}
+use Rattle.year.specs.Model.{Model, NoSetup, Year}
+use Rattle.journal.specs.Encode.{encode, slotPlace}
+
+-- the setup in the first 32 bytes
+abbrev pub setupIn : List ℕ → Setup
+setupIn journal =
+    record {
+      volume = number32 journal 8;
+      days = number16 journal 12;
+      standards = record { hcnox = number16 journal 14; co = number16 journal 16 };
+      factors =
+          record {
+            hcnox = record { kind = getD journal 18 0; value = number16 journal 20 };
+            co = record { kind = getD journal 19 0; value = number16 journal 22 };
+          };
+    }
+
+-- the event that a part of the journal, from a slot's start on, begins with. Any other kind than 1, 2 and 3 is taken for 4: it is not accepted unless it is 4
+abbrev pub eventIn : List ℕ → Event
+eventIn part =
+    cond (eqb (getD part 0 0) 1)
+    (Engine (number16 part 6) (getD part 1 0) (record { hcnox = number16 part 2; co = number16 part 4 }))
+    (cond (eqb (getD part 0 0) 2)
+    (Amendment (record { hcnox = number16 part 2; co = number16 part 4 }))
+    (cond (eqb (getD part 0 0) 3) NextPeriod Declaration))
+
+-- the events of the first slots, the newest first
+abbrev pub eventsIn : List ℕ → ℕ → List Event
+eventsIn journal zero = []
+eventsIn journal (suc j) = eventIn (drop (slotPlace j) journal) ∷ eventsIn journal j
+
+-- these bytes as this setup and these events, if they are so
+unfoldable pub readAs : List ℕ → Setup → List Event → Model
+readAs journal s es = cond (same (encode s es) journal && valid s es) (Year s es) NoSetup
+
+-- byte 24 is the number of events
+abbrev pub readJournal : List ℕ → Model
+readJournal journal = readAs journal (setupIn journal) (eventsIn journal (getD journal 24 0))

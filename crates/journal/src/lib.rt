@@ -1,0 +1,1 @@
+// The stored journal ("book" in document 01): 544 bytes for each setup and list of events. The definitions are in specs/; no type is declared here.
