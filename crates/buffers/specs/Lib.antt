@@ -1,2 +1,4 @@
 pub mod Rows
 pub mod Bytes
+pub mod Text
+pub mod Cases

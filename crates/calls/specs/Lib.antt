@@ -2,3 +2,4 @@ pub mod Call
 pub mod Refusals
 pub mod Answers
 pub mod Model
+pub mod Cases

@@ -4,6 +4,7 @@ use mathlib.Core.List.{List, [], _∷_, _++_}
 use Prim.Native.Nat.{ℕ, _+_, _-_, _*_}
 use lib.ListN.{length, getD}
 use Rattle.buffers.specs.Bytes.{put, zeros, bytes16, bytes32}
+use Rattle.buffers.specs.Text.{text}
 use Rattle.year.specs.declared.Setup.{Setup}
 use Rattle.year.specs.declared.Event.{Event}
 use Rattle.year.specs.declared.Event.the-variants.{Engine, Amendment, NextPeriod, Declaration}
@@ -12,7 +13,7 @@ use Rattle.year.specs.declared.Event.the-variants.{Engine, Amendment, NextPerio
 abbrev pub header : Setup → ℕ → List ℕ
 header s count =
     -- 0–2 "PLT"; 3–4 version 1; 5–7 zero
-    (80 ∷ 76 ∷ 84 ∷ []) ++ (bytes16 1 ++ (zeros 3
+    text "PLT" ++ (bytes16 1 ++ (zeros 3
     -- 8–11 P; 12–13 D
     ++ (bytes32 (s .volume) ++ (bytes16 (s .days)
     -- 14–15 and 16–17 the first standards, HC+NOx then CO

@@ -1,0 +1,61 @@
+-- The worked cases of the calls. A deviation without variation is 0 by its law; the rest is computed.
+-- Assumes nothing.
+use mathlib.Core.Path.{_≡_, refl}
+use Rattle.rounding.specs.Result.{nearestEven}
+use Rattle.statistics.specs.Spread.{variation}
+use Rattle.statistics.specs.SampleSize.{t95, sizeReached}
+use Rattle.statistics.proofs.Deviations.{deviation-none}
+use Rattle.cumsum.specs.Marks.{compared, failed, undecided}
+use Rattle.buffers.specs.Bytes.{put}
+use Rattle.year.specs.Periods.{periods, needs}
+use Rattle.year.specs.Verdict.{verdict}
+use Rattle.year.specs.Admissible.{closed, admissible}
+use Rattle.journal.specs.Read.{readAs}
+use Rattle.calls.specs.Refusals.{refusals, refusal}
+use Rattle.calls.specs.Answers.{journalAfter, answer, outAfter, marksPart}
+use Rattle.calls.specs.Model.{stepModel}
+use Rattle.calls.specs.Cases.{Cases}
+
+pub cases : Cases
+unfolding nearestEven variation t95 sizeReached compared failed undecided put periods needs verdict closed admissible readAs refusals refusal journalAfter answer outAfter marksPart stepModel
+cases =
+    record {
+      journalSize = refl;
+      volume = refl;
+      standard = refl;
+      factorKind = refl;
+      factorBelow = refl;
+      setupOverDeclared = refl;
+      amendmentStandard = refl;
+      amendmentNoSetup = refl;
+      statusNoSetup = refl;
+      marksNoSetup = refl;
+      afterDeclaration = refl;
+      afterFailure = simp deviation-none;
+      statusDeclared = refl;
+      eventsStored = refl;
+      numberZero = refl;
+      numberAbove = refl;
+      numberAgain = refl;
+      noReadings = refl;
+      countsDiffer = refl;
+      fourReadings = refl;
+      reading = refl;
+      result = refl;
+      periodShort = refl;
+      periodLast = simp deviation-none;
+      periodNext = simp deviation-none;
+      marksSize = refl;
+      marksFit = refl;
+      refusedLeaves = refl;
+      refusedAnswer = refl;
+      setupWrites = refl;
+      setupAnswer = refl;
+      entryWrites = refl;
+      marksWritten = refl;
+      marksHandedBack = refl;
+      marksRefused = refl;
+      modelOfNone = refl;
+      modelOfOne = refl;
+      modelAnew = refl;
+    }

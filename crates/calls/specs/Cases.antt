@@ -1,0 +1,97 @@
+-- Worked cases of the calls: each refusal by itself, some together with the next in order, and what accepted and refused calls leave.
+-- Lists of events and of calls have the newest first.
+-- Assumes nothing.
+use mathlib.Core.Path.{_≡_}
+use mathlib.Core.List.{List, [], _∷_}
+use Prim.Native.Nat.{ℕ}
+use lib.ListN.{replicate}
+use Rattle.buffers.specs.Bytes.{zeros}
+use Rattle.rounding.specs.declared.Factor.{Factor}
+use Rattle.rounding.specs.Cases.{noFactor}
+use Rattle.year.specs.declared.Pair.{Pair}
+use Rattle.year.specs.declared.Setup.{Setup}
+use Rattle.year.specs.declared.Event.{Event}
+use Rattle.year.specs.declared.Event.the-variants.{Amendment, Declaration}
+use Rattle.year.specs.Model.{Model, NoSetup, Year}
+use Rattle.year.specs.Cases.{pair, setupOf, engine, three}
+use Rattle.journal.specs.Encode.{encode}
+use Rattle.calls.specs.declared.Answer.the-variants.{Accepted, Refused}
+use Rattle.calls.specs.Call.{Readings, Entry, EnterEngine, Amend, BeginPeriod, Declare, Call, SetUp, Enter, ReadStatus, WriteMarks}
+use Rattle.calls.specs.Refusals.{refusal}
+use Rattle.calls.specs.Answers.{noStatus, answer, journalAfter, outAfter, marksPart}
+use Rattle.calls.specs.Model.{modelOf}
+
+-- a setup of this volume, these standards and this HC+NOx factor
+abbrev pub setupWith : ℕ → Pair → Factor → Setup
+setupWith volume standards factor =
+    record { volume = volume; days = 365; standards = standards; factors = record { hcnox = factor; co = noFactor } }
+
+-- the printed run's year, with some events
+abbrev pub yearOf : List Event → Model
+yearOf = Year (setupOf 5000 800)
+
+-- an engine with these readings
+abbrev pub entering : ℕ → List ℕ → List ℕ → Call
+entering number hcnox co = Enter (EnterEngine number (record { hcnox = hcnox; co = co }))
+
+-- the call of the printed run's first and second lines
+abbrev pub setting : Call
+setting = SetUp (setupOf 5000 800)
+
+abbrev pub first : Call
+first = entering 1 (998000 ∷ []) (5000000 ∷ [])
+
+pub record Cases : Type 0 where
+  -- 3, before all others
+  pub journalSize : refusal 543 (SetUp (setupWith 0 (pair 800 6100) noFactor)) NoSetup ≡ 3
+  -- 4 to 6, of a setup
+  pub volume : refusal 544 (SetUp (setupWith 0 (pair 5 6100) noFactor)) NoSetup ≡ 4
+  pub standard : refusal 544 (SetUp (setupWith 5000 (pair 800 6105) (record { kind = 2; value = 0 }))) NoSetup ≡ 5
+  pub factorKind : refusal 544 (SetUp (setupWith 5000 (pair 800 6100) (record { kind = 2; value = 0 }))) NoSetup ≡ 6
+  pub factorBelow : refusal 544 (SetUp (setupWith 5000 (pair 800 6100) (record { kind = 1; value = 999 }))) NoSetup ≡ 6
+  -- a setup asks nothing of the journal
+  pub setupOverDeclared : refusal 544 setting (yearOf (Declaration ∷ [])) ≡ 0
+  -- 5 of an amendment is checked before 7
+  pub amendmentStandard : refusal 544 (Enter (Amend (pair 15 10))) NoSetup ≡ 5
+  pub amendmentNoSetup : refusal 544 (Enter (Amend (pair 20 10))) NoSetup ≡ 7
+  pub statusNoSetup : refusal 544 ReadStatus NoSetup ≡ 7
+  pub marksNoSetup : refusal 544 (WriteMarks 0) NoSetup ≡ 7
+  -- 8, after a declaration and after a failure; status still reads
+  pub afterDeclaration : refusal 544 (entering 0 [] []) (yearOf (Declaration ∷ [])) ≡ 8
+  pub afterFailure : refusal 544 (Enter Declare) (Year (setupOf 5000 100) three) ≡ 8
+  pub statusDeclared : refusal 544 ReadStatus (yearOf (Declaration ∷ [])) ≡ 0
+  -- 9, with 64 amendments
+  pub eventsStored : refusal 544 (entering 0 [] []) (yearOf (replicate 64 (Amendment (pair 10 10)))) ≡ 9
+  -- 10, a number out of range or in the book, before 11
+  pub numberZero : refusal 544 (entering 0 [] []) (yearOf []) ≡ 10
+  pub numberAbove : refusal 544 (entering 65536 (1 ∷ []) (1 ∷ [])) (yearOf []) ≡ 10
+  pub numberAgain : refusal 544 (entering 1 [] []) (yearOf (engine 1 998 ∷ [])) ≡ 10
+  -- 11, before 12
+  pub noReadings : refusal 544 (entering 1 [] []) (yearOf []) ≡ 11
+  pub countsDiffer : refusal 544 (entering 1 (20000001 ∷ []) []) (yearOf []) ≡ 11
+  pub fourReadings : refusal 544 (entering 1 (1 ∷ 1 ∷ 1 ∷ 1 ∷ []) (1 ∷ 1 ∷ 1 ∷ 1 ∷ [])) (yearOf []) ≡ 11
+  -- 12, before 13
+  pub reading : refusal 544 (entering 1 (1 ∷ []) (20000001 ∷ [])) (yearOf []) ≡ 12
+  -- 13: 20,000 and 60 more
+  pub result : refusal 544 (entering 1 (20000000 ∷ []) (1 ∷ [])) (Year (setupWith 5000 (pair 800 6100) (record { kind = 0; value = 60000 })) []) ≡ 13
+  -- 15, in a short period, and in the last
+  pub periodShort : refusal 544 (Enter BeginPeriod) (yearOf (engine 1 998 ∷ [])) ≡ 15
+  pub periodLast : refusal 544 (Enter BeginPeriod) (Year (setupOf 1500 1000) (engine 2 1000 ∷ engine 1 1000 ∷ [])) ≡ 15
+  pub periodNext : refusal 544 (Enter BeginPeriod) (Year (setupOf 5000 1000) (engine 2 1000 ∷ engine 1 1000 ∷ [])) ≡ 0
+  -- 16
+  pub marksSize : refusal 544 (WriteMarks 1) (yearOf (engine 1 998 ∷ [])) ≡ 16
+  pub marksFit : refusal 544 (WriteMarks 2) (yearOf (engine 1 998 ∷ [])) ≡ 0
+  -- on bytes: a refused call leaves them, and gives zeros; a setup writes all, an entry adds its event
+  pub refusedLeaves : journalAfter first (zeros 544) ≡ zeros 544
+  pub refusedAnswer : answer first (zeros 544) ≡ Refused 7
+  pub setupWrites : journalAfter setting (zeros 544) ≡ encode (setupOf 5000 800) []
+  pub setupAnswer : answer setting (zeros 544) ≡ Accepted noStatus
+  pub entryWrites : journalAfter first (encode (setupOf 5000 800) []) ≡ encode (setupOf 5000 800) (engine 1 998 ∷ [])
+  -- marks at the front of the output, the rest of it as it was; refused, all of it as it was
+  pub marksWritten : outAfter (encode (setupOf 5000 800) (engine 1 998 ∷ [])) (1 ∷ 2 ∷ 3 ∷ []) ≡ 45 ∷ 45 ∷ 3 ∷ []
+  pub marksHandedBack : marksPart (encode (setupOf 5000 800) (engine 1 998 ∷ [])) (1 ∷ 2 ∷ 3 ∷ []) ≡ 45 ∷ 45 ∷ []
+  pub marksRefused : outAfter (encode (setupOf 5000 800) (engine 1 998 ∷ [])) (1 ∷ []) ≡ 1 ∷ []
+  -- the model of a list: what comes before an accepted setup is refused, a second setup starts anew
+  pub modelOfNone : modelOf (Enter Declare ∷ first ∷ []) ≡ NoSetup
+  pub modelOfOne : modelOf (first ∷ first ∷ setting ∷ first ∷ []) ≡ yearOf (engine 1 998 ∷ [])
+  pub modelAnew : modelOf (setting ∷ Enter Declare ∷ first ∷ setting ∷ []) ≡ yearOf []

@@ -1,0 +1,43 @@
+-- The worked cases of the key line.
+-- Assumes nothing.
+use mathlib.Core.Path.{_≡_, refl}
+use Rattle.commands.specs.Number.{digits, spelt, isNumber, numberAt}
+use Rattle.commands.specs.KeyLine.{spacedNumber, numbersFrom, callOf, commandOf}
+use Rattle.commands.specs.Reply.{decimalUpTo, decimal}
+use Rattle.commands.specs.Cases.{Cases}
+
+pub cases : Cases
+unfolding digits spelt isNumber numberAt spacedNumber numbersFrom callOf commandOf decimalUpTo decimal
+cases =
+    record {
+      setup = refl;
+      engine = refl;
+      amendment = refl;
+      period = refl;
+      declaration = refl;
+      marks = refl;
+      fourReadings = refl;
+      noReadings = refl;
+      eightReadings = refl;
+      oddReadings = refl;
+      noNumber = refl;
+      eightDigits = refl;
+      nineDigits = refl;
+      leadingZero = refl;
+      twoZeros = refl;
+      twoSpaces = refl;
+      spaceAtEnd = refl;
+      noSpace = refl;
+      otherByte = refl;
+      otherCount = refl;
+      numberAfterPeriod = refl;
+      otherLetter = refl;
+      smallLetter = refl;
+      emptyLine = refl;
+      bytes64 = refl;
+      bytes65 = refl;
+      twoLines = refl;
+      threeLines = refl;
+      refusedBy16 = refl;
+      noMarks = refl;
+    }

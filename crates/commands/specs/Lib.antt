@@ -1,0 +1,5 @@
+pub mod Number
+pub mod KeyLine
+pub mod Reply
+pub mod Run
+pub mod Cases
