@@ -1,3 +1,3 @@
+pub mod Cases
 pub mod Tests
 pub mod Rows
-pub mod Cases

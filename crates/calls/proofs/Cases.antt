@@ -48,14 +48,17 @@ cases =
       marksSize = refl;
       marksFit = refl;
       refusedLeaves = refl;
+      declaredLeaves = refl;
       refusedAnswer = refl;
       setupWrites = refl;
       setupAnswer = refl;
       entryWrites = refl;
+      entryAnswer = refl;
       marksWritten = refl;
       marksHandedBack = refl;
       marksRefused = refl;
       modelOfNone = refl;
       modelOfOne = refl;
+      modelOfTwo = refl;
       modelAnew = refl;
     }

@@ -1,2 +1,2 @@
-pub mod Admitted
 pub mod Cases
+pub mod Validity

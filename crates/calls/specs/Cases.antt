@@ -12,6 +12,7 @@ use Rattle.year.specs.declared.Pair.{Pair}
 use Rattle.year.specs.declared.Setup.{Setup}
 use Rattle.year.specs.declared.Event.{Event}
 use Rattle.year.specs.declared.Event.the-variants.{Amendment, Declaration}
+use Rattle.year.specs.Status.{blank}
 use Rattle.year.specs.Model.{Model, NoSetup, Year}
 use Rattle.year.specs.Cases.{pair, setupOf, engine, three}
 use Rattle.journal.specs.Encode.{encode}
@@ -83,10 +84,13 @@ pub record Cases : Type 0 where
   pub marksFit : refusal 544 (WriteMarks 2) (yearOf (engine 1 998 ∷ [])) ≡ 0
   -- on bytes: a refused call leaves them, and gives zeros; a setup writes all, an entry adds its event
   pub refusedLeaves : journalAfter first (zeros 544) ≡ zeros 544
+  pub declaredLeaves : journalAfter first (encode (setupOf 5000 800) (Declaration ∷ [])) ≡ encode (setupOf 5000 800) (Declaration ∷ [])
   pub refusedAnswer : answer first (zeros 544) ≡ Refused 7
   pub setupWrites : journalAfter setting (zeros 544) ≡ encode (setupOf 5000 800) []
   pub setupAnswer : answer setting (zeros 544) ≡ Accepted noStatus
   pub entryWrites : journalAfter first (encode (setupOf 5000 800) []) ≡ encode (setupOf 5000 800) (engine 1 998 ∷ [])
+  -- the status that an entry gives is that of the journal that it leaves: one engine, short, S 998 and 5,000
+  pub entryAnswer : answer first (encode (setupOf 5000 800) []) ≡ Accepted (record { n = 1; verdict = 0; hcnox = blank 998; co = blank 5000 })
   -- marks at the front of the output, the rest of it as it was; refused, all of it as it was
   pub marksWritten : outAfter (encode (setupOf 5000 800) (engine 1 998 ∷ [])) (1 ∷ 2 ∷ 3 ∷ []) ≡ 45 ∷ 45 ∷ 3 ∷ []
   pub marksHandedBack : marksPart (encode (setupOf 5000 800) (engine 1 998 ∷ [])) (1 ∷ 2 ∷ 3 ∷ []) ≡ 45 ∷ 45 ∷ []
@@ -94,4 +98,5 @@ pub record Cases : Type 0 where
   -- the model of a list: what comes before an accepted setup is refused, a second setup starts anew
   pub modelOfNone : modelOf (Enter Declare ∷ first ∷ []) ≡ NoSetup
   pub modelOfOne : modelOf (first ∷ first ∷ setting ∷ first ∷ []) ≡ yearOf (engine 1 998 ∷ [])
+  pub modelOfTwo : modelOf (Enter (Amend (pair 700 6100)) ∷ first ∷ setting ∷ []) ≡ yearOf (Amendment (pair 700 6100) ∷ engine 1 998 ∷ [])
   pub modelAnew : modelOf (setting ∷ Enter Declare ∷ first ∷ setting ∷ []) ≡ yearOf []

@@ -28,6 +28,7 @@ cases =
       twoSpaces = refl;
       spaceAtEnd = refl;
       noSpace = refl;
+      tab = refl;
       otherByte = refl;
       otherCount = refl;
       numberAfterPeriod = refl;
@@ -40,4 +41,5 @@ cases =
       threeLines = refl;
       refusedBy16 = refl;
       noMarks = refl;
+      twoTested = refl;
     }

@@ -3,11 +3,28 @@
 use mathlib.Core.Path.{_≡_}
 use mathlib.Core.List.{[], _∷_}
 use Rattle.buffers.specs.Text.{text}
+use Rattle.statistics.specs.declared.SampleSize.{SampleSize}
+use Rattle.statistics.specs.declared.SampleSize.the-variants.{Tenths, Absent}
+use Rattle.cumsum.specs.declared.Mark.{Mark}
+use Rattle.cumsum.specs.declared.Mark.the-variants.{Under, Undecided}
+use Rattle.year.specs.declared.Figures.{Figures}
 use Rattle.year.specs.Cases.{pair, setupOf}
 use Rattle.calls.specs.Call.{EnterEngine, Amend, BeginPeriod, Declare, SetUp, Enter, WriteMarks}
 use Rattle.commands.specs.KeyLine.{Make, Refuse, commandOf}
-use Rattle.commands.specs.Reply.{refusalReply, marksReply}
+use Rattle.commands.specs.Reply.{refusalReply, marksReply, statusReply}
 use Rattle.commands.specs.Run.{linesOf}
+
+-- figures of which a reply shows the mark and the sample size
+abbrev pub marked : Mark → SampleSize → Figures
+marked mark size =
+    record {
+      sum = 0;
+      deviation = record { floor = 0; inexact = 0 };
+      cumsum = record { low = 0; high = 0 };
+      limit = record { low = 0; high = 0 };
+      size = size;
+      mark = mark;
+    }
 
 pub record Cases : Type 0 where
   -- each letter
@@ -34,6 +51,7 @@ pub record Cases : Type 0 where
   pub twoSpaces : commandOf (text "A 800  6100") ≡ Refuse 2
   pub spaceAtEnd : commandOf (text "A 800 6100 ") ≡ Refuse 2
   pub noSpace : commandOf (text "A800 6100") ≡ Refuse 2
+  pub tab : commandOf (text "A\t800 6100") ≡ Refuse 2
   pub otherByte : commandOf (text "A 800 6100x") ≡ Refuse 2
   pub otherCount : commandOf (text "A 800") ≡ Refuse 2
   pub numberAfterPeriod : commandOf (text "P 1") ≡ Refuse 2
@@ -50,3 +68,4 @@ pub record Cases : Type 0 where
   -- replies that the run lacks
   pub refusedBy16 : refusalReply 16 ≡ text "NO 16"
   pub noMarks : marksReply [] ≡ text "OK"
+  pub twoTested : statusReply (record { n = 2; verdict = 1; hcnox = marked Undecided (Tenths 30); co = marked Under Absent }) ≡ text "OK 2 1 ?U 30 -"

@@ -47,9 +47,8 @@ sizeText Absent = text "-"
 -- ""OK", n, verdict, the two last marks joined, N in tenths for each pollutant .., with single spaces"
 abbrev pub statusReply : Status → List ℕ
 statusReply s =
-    text "OK" ++ (spaced (decimal (s .n)) ++ (spaced (decimal (s .verdict))
-    ++ (spaced (markByte (s .hcnox .mark) ∷ markByte (s .co .mark) ∷ [])
-    ++ (spaced (sizeText (s .hcnox .size)) ++ spaced (sizeText (s .co .size))))))
+    text "OK" ++ spaced (decimal (s .n)) ++ spaced (decimal (s .verdict)) ++ spaced (markByte (s .hcnox .mark) ∷ markByte (s .co .mark) ∷ [])
+    ++ spaced (sizeText (s .hcnox .size)) ++ spaced (sizeText (s .co .size))
 
 abbrev pub replyWith : (Status → List ℕ) → Answer → List ℕ
 replyWith told (Accepted s) = told s

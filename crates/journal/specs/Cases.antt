@@ -31,9 +31,11 @@ pub record Cases : Type 0 where
   pub declarationSlot : slotOf Declaration ≡ 4 ∷ 0 ∷ 0 ∷ 0 ∷ 0 ∷ 0 ∷ 0 ∷ 0 ∷ []
   -- an entry writes its slot and byte 24
   pub appended : append none (engine 1 998) ≡ one
+  pub appendedNext : append one Declaration ≡ encode (setupOf 5000 800) (Declaration ∷ engine 1 998 ∷ [])
   -- what was stored is read back; zeros are no journal
   pub readNone : readJournal none ≡ Year (setupOf 5000 800) []
   pub readOne : readJournal one ≡ Year (setupOf 5000 800) (engine 1 998 ∷ [])
+  pub readTwo : readJournal (encode (setupOf 5000 800) (Declaration ∷ engine 1 998 ∷ [])) ≡ Year (setupOf 5000 800) (Declaration ∷ engine 1 998 ∷ [])
   pub readZeros : readJournal (zeros 544) ≡ NoSetup
   -- refused: another version, an unnamed byte that is not zero, in the header and in a slot, a kind 5, one byte more or less
   pub otherVersion : readJournal (set none 3 2) ≡ NoSetup

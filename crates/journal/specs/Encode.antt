@@ -13,19 +13,19 @@ use Rattle.year.specs.declared.Event.the-variants.{Engine, Amendment, NextPerio
 abbrev pub header : Setup → ℕ → List ℕ
 header s count =
     -- 0–2 "PLT"; 3–4 version 1; 5–7 zero
-    text "PLT" ++ (bytes16 1 ++ (zeros 3
+    text "PLT" ++ bytes16 1 ++ zeros 3
     -- 8–11 P; 12–13 D
-    ++ (bytes32 (s .volume) ++ (bytes16 (s .days)
+    ++ bytes32 (s .volume) ++ bytes16 (s .days)
     -- 14–15 and 16–17 the first standards, HC+NOx then CO
-    ++ (bytes16 (s .standards .hcnox) ++ (bytes16 (s .standards .co)
+    ++ bytes16 (s .standards .hcnox) ++ bytes16 (s .standards .co)
     -- 18 and 19 factor kinds; 20–21 and 22–23 factors
-    ++ ((s .factors .hcnox .kind ∷ s .factors .co .kind ∷ []) ++ (bytes16 (s .factors .hcnox .value) ++ (bytes16 (s .factors .co .value)
+    ++ (s .factors .hcnox .kind ∷ s .factors .co .kind ∷ []) ++ bytes16 (s .factors .hcnox .value) ++ bytes16 (s .factors .co .value)
     -- 24 number of events; 25–31 zero
-    ++ (count ∷ zeros 7))))))))))
+    ++ (count ∷ zeros 7)
 
 -- the eight bytes of a slot: 0 the kind, 1 readings per pollutant, and the numbers at 2–3, 4–5 and 6–7
 abbrev pub slot : ℕ → ℕ → ℕ → ℕ → ℕ → List ℕ
-slot kind readings a b c = kind ∷ readings ∷ (bytes16 a ++ (bytes16 b ++ bytes16 c))
+slot kind readings a b c = (kind ∷ readings ∷ []) ++ bytes16 a ++ bytes16 b ++ bytes16 c
 
 -- "Unnamed bytes .. are zero."
 abbrev pub slotOf : Event → List ℕ
@@ -45,7 +45,7 @@ slots (e ∷ es) = slots es ++ slotOf e
 
 -- "unused slots are zero"
 abbrev pub encode : Setup → List Event → List ℕ
-encode s es = header s (length es) ++ (slots es ++ zeros (512 - 8 * length es))
+encode s es = header s (length es) ++ slots es ++ zeros (512 - 8 * length es)
 
 -- "Slot j, from 0, is the eight bytes that start at 32 + 8 × j."
 abbrev pub slotPlace : ℕ → ℕ

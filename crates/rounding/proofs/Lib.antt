@@ -1,2 +1,2 @@
-pub mod Nearest
 pub mod Cases
+pub mod Nearest

@@ -16,6 +16,13 @@ use Rattle.year.specs.Admissible.{closed, admissible}
 use Rattle.year.specs.Cases.{Cases}
 use Rattle.year.specs.StarredCases.{StarredCases}
 
+-- 998, 1,071, 926
+of-998-1071-926 : deviation 1024 3 31538 ≡ exactly 74240 1
+of-998-1071-926 = deviation-unique 1024 3 31538 (lit≤ tt) 74240 (lit≤ tt) (lit< tt)
+
+of-998-1071-926-finer : deviation 8192 3 31538 ≡ exactly 593924 1
+of-998-1071-926-finer = deviation-unique 8192 3 31538 (lit≤ tt) 593924 (lit≤ tt) (lit< tt)
+
 -- 23, 23, 83 and then 83
 of-23-23-83 : deviation 1024 3 7200 ≡ exactly 35472 1
 of-23-23-83 = deviation-unique 1024 3 7200 (lit≤ tt) 35472 (lit≤ tt) (lit< tt)
@@ -62,10 +69,14 @@ cases =
       verdictOfOne = refl;
       verdictOfTwo = simp (statistics.cases .deviationAt1024, deviation-none);
       verdictDeclared = refl;
+      verdictUndecided = simp (statistics.cases .deviationAt1024, of-998-1071-926, deviation-none);
+      verdictSettled = simp (statistics.cases .deviationAt8192, of-998-1071-926-finer, deviation-none);
       verdictAtN = simp (of-23-23-83, of-23-23-83-83, deviation-none);
       verdictAtOnePercent = simp deviation-none;
       verdictOfNewPeriod = simp deviation-none;
       verdictAmended = simp deviation-none;
+      testsAmended = refl;
+      statusOfOne = refl;
       failedIsClosed = simp deviation-none;
       threeIsValid = simp deviation-none;
       numberTwice = refl;

@@ -1,5 +1,5 @@
+pub mod Cases
 pub mod Replayed
 pub mod Finer
 pub mod Valid
 pub mod Amended
-pub mod Cases

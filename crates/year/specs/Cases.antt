@@ -15,11 +15,11 @@ use Rattle.year.specs.declared.Setup.{Setup}
 use Rattle.year.specs.declared.Event.{Event}
 use Rattle.year.specs.declared.Event.the-variants.{Engine, Amendment, NextPeriod, Declaration}
 use Rattle.year.specs.declared.Status.{Status}
-use Rattle.year.specs.Periods.{periods}
-use Rattle.year.specs.Replay.{Progress, replay}
+use Rattle.year.specs.Setup.{Hcnox}
+use Rattle.year.specs.Replay.{Progress, replay, history}
 use Rattle.year.specs.Verdict.{verdict, onePercent}
 use Rattle.year.specs.Admissible.{valid}
-use Rattle.year.specs.Status.{status, printedMarks}
+use Rattle.year.specs.Status.{blank, status, printedMarks}
 
 abbrev pub pair : ℕ → ℕ → Pair
 pair hcnox co = record { hcnox = hcnox; co = co }
@@ -56,6 +56,9 @@ pub record Cases : Type 0 where
   pub verdictOfOne : verdict 1024 (replay (setupOf 5000 800) (engine 1 998 ∷ [])) ≡ 0
   pub verdictOfTwo : verdict 1024 two ≡ 1
   pub verdictDeclared : verdict 1024 (replay (setupOf 5000 800) (Declaration ∷ engine 2 1071 ∷ engine 1 998 ∷ [])) ≡ 7
+  -- T 800, X 998, 1,071, 926: marks '-', '?', 'O' are verdict 5. Work at m = 8 settles the '?' by 'O', and the year has failed
+  pub verdictUndecided : verdict 1024 (replay (setupOf 5000 800) (engine 3 926 ∷ engine 2 1071 ∷ engine 1 998 ∷ [])) ≡ 5
+  pub verdictSettled : verdict (1024 * 8) (replay (setupOf 5000 800) (engine 3 926 ∷ engine 2 1071 ∷ engine 1 998 ∷ [])) ≡ 6
   -- n = N is no stop: standard 100, results 23, 23, 83, 83, N is exactly 4
   pub verdictAtN : verdict 1024 (replay (setupOf 5000 100) (engine 4 83 ∷ engine 3 83 ∷ engine 2 23 ∷ engine 1 23 ∷ [])) ≡ 1
   -- one percent of 150 is 2 (1.5): with two engines, verdict 4
@@ -64,6 +67,11 @@ pub record Cases : Type 0 where
   pub verdictOfNewPeriod : verdict 1024 (replay (setupOf 5000 1000) (NextPeriod ∷ engine 2 1000 ∷ engine 1 1000 ∷ [])) ≡ 0
   -- an amendment to 10 leaves two engines under 1,000 where they were: verdict 2 stays, and N stays 1
   pub verdictAmended : verdict 1024 (replay (setupOf 1500 1000) (Amendment (pair 10 10) ∷ engine 2 800 ∷ engine 1 800 ∷ [])) ≡ 2
+  -- and it is T for the engine after it
+  pub testsAmended : history Hcnox (replay (setupOf 5000 800) (engine 2 900 ∷ Amendment (pair 700 6100) ∷ engine 1 998 ∷ []) .tested)
+      ≡ record { result = 900; standard = 700 } ∷ record { result = 998; standard = 800 } ∷ []
+  -- with one engine only n, S and the verdict are shown
+  pub statusOfOne : status 1024 (replay (setupOf 5000 800) (engine 1 998 ∷ [])) ≡ record { n = 1; verdict = 0; hcnox = blank 998; co = blank 5000 }
   -- nothing follows a failure, no number comes twice, and no period follows a short one
   pub failedIsClosed : valid (setupOf 5000 100) (NextPeriod ∷ three) ≡ false
   pub threeIsValid : valid (setupOf 5000 100) three ≡ true
