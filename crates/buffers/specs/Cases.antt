@@ -4,7 +4,7 @@ use mathlib.Core.Path.{_≡_}
 use mathlib.Core.Bool.{true, false}
 use mathlib.Core.List.{[], _∷_}
 use Rattle.buffers.specs.Rows.{first, applies, within}
-use Rattle.buffers.specs.Bytes.{put, zeros, bytes16, bytes32, number16, number32, same}
+use Rattle.buffers.specs.Bytes.{put, bytes16, bytes32, number16, number32, same}
 use Rattle.buffers.specs.Text.{byte, text}
 
 pub record Cases : Type 0 where

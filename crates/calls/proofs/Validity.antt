@@ -1,7 +1,7 @@
 -- The event of an accepted entry is admissible, and so every list of calls leaves the reference model with a year that could have been entered.
 -- Assumes nothing.
 use mathlib.Core.Path.{_≡_, refl}
-use mathlib.Core.Bool.{Bool, true, false, not, _&&_, _||_, and-eq-true-iff}
+use mathlib.Core.Bool.{true, false, not, and-eq-true-iff}
 use mathlib.Core.List.{List, [], _∷_}
 use Prim.Native.Nat.{ℕ}
 use native.Mathlib.Omega.{arith}

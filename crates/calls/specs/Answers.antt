@@ -7,7 +7,6 @@ use lib.Dec.{eqb}
 use lib.ListN.{length}
 use Rattle.buffers.specs.Bytes.{put}
 use Rattle.cumsum.specs.Marks.{markByte}
-use Rattle.year.specs.declared.Setup.{Setup}
 use Rattle.year.specs.declared.Status.{Status}
 use Rattle.year.specs.Replay.{replay}
 use Rattle.year.specs.Status.{blank, status, printedMarks}

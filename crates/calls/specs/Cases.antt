@@ -17,7 +17,7 @@ use Rattle.year.specs.Model.{Model, NoSetup, Year}
 use Rattle.year.specs.Cases.{pair, setupOf, engine, three}
 use Rattle.journal.specs.Encode.{encode}
 use Rattle.calls.specs.declared.Answer.the-variants.{Accepted, Refused}
-use Rattle.calls.specs.Call.{Readings, Entry, EnterEngine, Amend, BeginPeriod, Declare, Call, SetUp, Enter, ReadStatus, WriteMarks}
+use Rattle.calls.specs.Call.{EnterEngine, Amend, BeginPeriod, Declare, Call, SetUp, Enter, ReadStatus, WriteMarks}
 use Rattle.calls.specs.Refusals.{refusal}
 use Rattle.calls.specs.Answers.{noStatus, answer, journalAfter, outAfter, marksPart}
 use Rattle.calls.specs.Model.{modelOf}

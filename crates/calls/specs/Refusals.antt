@@ -6,13 +6,13 @@ use mathlib.Core.List.{List, [], _∷_}
 use Prim.Native.Nat.{ℕ, _*_}
 use lib.Dec.{eqb, ltb}
 use lib.ListN.{length}
-use Rattle.buffers.specs.Rows.{Row, first, applies}
+use Rattle.buffers.specs.Rows.{Row, first}
 use Rattle.rounding.specs.Result.{countInRange, readingInRange}
 use Rattle.year.specs.Setup.{both, standardsInRange, volumeInRange, factorsInRange}
-use Rattle.year.specs.Replay.{Progress, short}
+use Rattle.year.specs.Replay.{short}
 use Rattle.year.specs.Admissible.{closed, eventsFull, enginesFull, numberFree, resultsInRange, lastPeriod}
 use Rattle.year.specs.Model.{Model, NoSetup, Year, ofYear}
-use Rattle.calls.specs.Call.{Readings, readingsOf, Entry, Call, resultsOf, ofSetup, ofEntry, ofMarks, ofEngine, ofAmendment, ofPeriod}
+use Rattle.calls.specs.Call.{Readings, readingsOf, Call, resultsOf, ofSetup, ofEntry, ofMarks, ofEngine, ofAmendment, ofPeriod}
 
 abbrev pub noSetup : Model → Bool
 noSetup NoSetup = true

@@ -1,6 +1,6 @@
 -- The worked cases of the key line.
 -- Assumes nothing.
-use mathlib.Core.Path.{_≡_, refl}
+use mathlib.Core.Path.{refl}
 use Rattle.commands.specs.Number.{digits, spelt, isNumber, numberAt}
 use Rattle.commands.specs.KeyLine.{spacedNumber, numbersFrom, callOf, commandOf}
 use Rattle.commands.specs.Reply.{decimalUpTo, decimal}

@@ -1,14 +1,14 @@
 -- The intervals at resolution k × m lie within those at k, and how wide an interval is.
 -- Assumes nothing.
 use mathlib.Core.List.{List, [], _∷_}
-use Prim.Native.Nat.{ℕ, _+_, _*_, _-_, _≤_}
+use Prim.Native.Nat.{ℕ, _*_, _-_, _≤_}
 use native.Mathlib.Nat.{mul-sub, mul-le-mul-right}
 use native.Mathlib.Omega.{arith}
 use lib.ListN.{length}
-use Rattle.statistics.specs.Spread.{Test, deviationOf, variation}
-use Rattle.statistics.proofs.Deviations.{inexact-le, FinerDeviation, deviation-finer}
+use Rattle.statistics.specs.Spread.{Test, variation}
+use Rattle.statistics.proofs.Deviations.{inexact-le, deviation-finer}
 use Rattle.cumsum.specs.declared.Interval.{Interval}
-use Rattle.cumsum.specs.Intervals.{cumsumLow, cumsumHigh, cumsum, actionLimit}
+use Rattle.cumsum.specs.Intervals.{cumsum, actionLimit}
 use Rattle.cumsum.specs.FinerWork.{Within, Width}
 
 -- an interval at k × m within m times one at k

@@ -2,9 +2,8 @@
 -- Assumes nothing.
 use mathlib.Core.Path.{_≡_}
 use mathlib.Core.Bool.{true, false}
-use mathlib.Core.List.{List, [], _∷_}
+use mathlib.Core.List.{[], _∷_}
 use Prim.Native.Nat.{ℕ, _*_}
-use Rattle.statistics.specs.Spread.{Test}
 use Rattle.statistics.specs.Cases.{under}
 use Rattle.cumsum.specs.declared.Interval.{Interval}
 use Rattle.cumsum.specs.declared.Mark.the-variants.{Unmarked, Over, Under, Undecided}

@@ -3,9 +3,8 @@
 use mathlib.Core.Path.{_≡_}
 use mathlib.Core.Logic.{_↔_, _≢_}
 use mathlib.Core.List.{List}
-use Prim.Native.Nat.{ℕ, _+_, _*_, _-_, _≤_, _<_}
+use Prim.Native.Nat.{ℕ, _+_, _*_, _≤_, _<_}
 use lib.ListN.{length, getD}
-use Rattle.statistics.specs.Spread.{Test}
 use Rattle.cumsum.specs.declared.Interval.{Interval}
 use Rattle.cumsum.specs.declared.Mark.{Mark}
 use Rattle.cumsum.specs.declared.Mark.the-variants.{Unmarked, Over, Under, Undecided}

@@ -1,6 +1,6 @@
 -- The worked cases of the stored journal: each is computed.
 -- Assumes nothing.
-use mathlib.Core.Path.{_≡_, refl}
+use mathlib.Core.Path.{refl}
 use Rattle.rounding.specs.Result.{nearestEven}
 use Rattle.statistics.specs.SampleSize.{sizeReached}
 use Rattle.cumsum.specs.Marks.{failed, undecided}

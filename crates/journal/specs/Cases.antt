@@ -5,7 +5,6 @@ use mathlib.Core.List.{List, [], _∷_, _++_}
 use Prim.Native.Nat.{ℕ}
 use lib.ListN.{length, take, drop, set}
 use Rattle.buffers.specs.Bytes.{zeros}
-use Rattle.year.specs.declared.Event.{Event}
 use Rattle.year.specs.declared.Event.the-variants.{Amendment, NextPeriod, Declaration}
 use Rattle.year.specs.Model.{NoSetup, Year}
 use Rattle.year.specs.Cases.{pair, setupOf, engine}

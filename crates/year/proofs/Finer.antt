@@ -7,12 +7,8 @@ use mathlib.Core.List.{List, [], _∷_, _++_, Forall₂, Forall₂·nil, Forall�
 use Prim.Native.Nat.{ℕ, suc, _*_, _-_, _≤_}
 use native.Mathlib.Omega.{arith}
 use lib.ListN.{length, drop, length-drop}
-use Rattle.buffers.specs.Rows.{Row, first}
-use Rattle.statistics.specs.Spread.{Test}
 use Rattle.cumsum.specs.declared.Mark.{Mark}
-use Rattle.cumsum.specs.Intervals.{cumsum, actionLimit}
 use Rattle.cumsum.specs.Marks.{marks, failed, undecided}
-use Rattle.cumsum.specs.FinerWork.{Width}
 use Rattle.cumsum.proofs.Finer.{inside-within, cumsum-inside, limit-inside, cumsum-width, limit-width}
 use Rattle.cumsum.proofs.MarksFiner.{Refined, mark-refined, marks-refined, refined-lists}
 use Rattle.cumsum.proofs.Patterns.{or-map, or-exchange, failed-stays, open-was}
@@ -20,7 +16,7 @@ use Rattle.year.specs.declared.Setup.{Setup}
 use Rattle.year.specs.declared.Event.{Event}
 use Rattle.year.specs.Setup.{Pollutant, Hcnox, Co}
 use Rattle.year.specs.Replay.{Tested, Progress, replay, history}
-use Rattle.year.specs.Verdict.{verdict, verdictRows}
+use Rattle.year.specs.Verdict.{verdict}
 use Rattle.year.specs.Status.{printedMarks}
 use Rattle.year.specs.FinerWork.{FinerWork, atEngine}
 

@@ -4,7 +4,7 @@
 use mathlib.Core.Bool.{Bool, true, not, _&&_, _||_}
 use mathlib.Core.List.{List, [], _∷_}
 use Prim.Native.Nat.{ℕ}
-use lib.Dec.{eqb, ltb}
+use lib.Dec.{eqb}
 use lib.ListN.{length}
 use Rattle.buffers.specs.Rows.{within}
 use Rattle.rounding.specs.Result.{countInRange, resultInRange}

@@ -6,15 +6,11 @@ use mathlib.Core.Bool.{true, false}
 use mathlib.Core.List.{List, [], _∷_}
 use Prim.Native.Nat.{ℕ, _*_}
 use Rattle.rounding.specs.Cases.{noFactor}
-use Rattle.statistics.specs.declared.SampleSize.the-variants.{Tenths, Absent}
-use Rattle.statistics.specs.Cases.{exactly}
-use Rattle.cumsum.specs.declared.Mark.the-variants.{Unmarked, Over, Under, Undecided}
-use Rattle.cumsum.specs.Cases.{from}
+use Rattle.cumsum.specs.declared.Mark.the-variants.{Unmarked, Over, Under}
 use Rattle.year.specs.declared.Pair.{Pair}
 use Rattle.year.specs.declared.Setup.{Setup}
 use Rattle.year.specs.declared.Event.{Event}
 use Rattle.year.specs.declared.Event.the-variants.{Engine, Amendment, NextPeriod, Declaration}
-use Rattle.year.specs.declared.Status.{Status}
 use Rattle.year.specs.Setup.{Hcnox}
 use Rattle.year.specs.Replay.{Progress, replay, history}
 use Rattle.year.specs.Verdict.{verdict, onePercent}
