@@ -5,6 +5,7 @@ use Rattle.commands.specs.Number.{digits, spelt, isNumber, numberAt}
 use Rattle.commands.specs.KeyLine.{spacedNumber, numbersFrom, callOf, commandOf}
 use Rattle.commands.specs.Reply.{decimalUpTo, decimal}
 use Rattle.commands.specs.Cases.{Cases}
+use Rattle.commands.proofs.Run.{document-run}
 
 pub cases : Cases
 unfolding digits spelt isNumber numberAt spacedNumber numbersFrom callOf commandOf decimalUpTo decimal
@@ -42,4 +43,5 @@ cases =
       refusedBy16 = refl;
       noMarks = refl;
       twoTested = refl;
+      documentRun = document-run;
     }

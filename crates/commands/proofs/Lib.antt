@@ -1,1 +1,3 @@
 pub mod Cases
+pub mod Run
+pub mod Steps

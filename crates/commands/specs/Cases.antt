@@ -1,4 +1,4 @@
--- Worked cases of the key line.
+-- Worked cases of the key line, and document 01's whole run.
 -- Assumes nothing.
 use mathlib.Core.Path.{_≡_}
 use mathlib.Core.List.{[], _∷_}
@@ -12,7 +12,7 @@ use Rattle.year.specs.Cases.{pair, setupOf}
 use Rattle.calls.specs.Call.{EnterEngine, Amend, BeginPeriod, Declare, SetUp, Enter, WriteMarks}
 use Rattle.commands.specs.KeyLine.{Make, Refuse, commandOf}
 use Rattle.commands.specs.Reply.{refusalReply, marksReply, statusReply}
-use Rattle.commands.specs.Run.{linesOf}
+use Rattle.commands.specs.Run.{linesOf, run}
 
 -- figures of which a reply shows the mark and the sample size
 abbrev pub marked : Mark → SampleSize → Figures
@@ -69,3 +69,6 @@ pub record Cases : Type 0 where
   pub refusedBy16 : refusalReply 16 ≡ text "NO 16"
   pub noMarks : marksReply [] ≡ text "OK"
   pub twoTested : statusReply (record { n = 2; verdict = 1; hcnox = marked Undecided (Tenths 30); co = marked Under Absent }) ≡ text "OK 2 1 ?U 30 -"
+  -- document 01, "Input and print of a whole run"
+  pub documentRun : run (text "S 5000 365 800 6100 0 0 0 0\nE 1 998000 5000000\nE 2 1071000 5000000\nE 3 900000 5000000\nL\nX\nE 4 1 1\n")
+      ≡ text "OK 0 0 -- - -\nOK 1 0 -- - -\nOK 2 1 ?U 30 10\nOK 3 1 UU 28 10\nOK --?UUU\nOK 3 7 UU 28 10\nNO 8\n"

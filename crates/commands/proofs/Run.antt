@@ -1,0 +1,125 @@
+-- Document 01's whole run, line by line, on the definitions. Deviations are found by their laws; the rest is computed.
+-- Assumes nothing.
+use mathlib.Core.Path.{_≡_, refl, ap, _∙_}
+use mathlib.Core.Bool.{true}
+use mathlib.Core.List.{List, [], _∷_}
+use Prim.Native.Nat.{ℕ}
+use lib.Dec.{lit<, lit≤}
+use lib.ListN.{length}
+use Rattle.buffers.specs.Text.{text}
+use Rattle.buffers.specs.Bytes.{put, zeros}
+use Rattle.rounding.specs.Result.{nearestEven}
+use Rattle.statistics.specs.Spread.{variation, deviation}
+use Rattle.statistics.specs.SampleSize.{t95, sampleSize, sizeReached, roundedUp}
+use Rattle.statistics.specs.Cases.{exactly}
+use Rattle.statistics.proofs.Deviations.{deviation-unique, deviation-none}
+use Rattle.cumsum.specs.Marks.{compared, failed, undecided}
+use Rattle.year.specs.declared.Event.{Event}
+use Rattle.year.specs.declared.Event.the-variants.{Declaration}
+use Rattle.year.specs.Periods.{periods, needs}
+use Rattle.year.specs.Verdict.{verdict}
+use Rattle.year.specs.Admissible.{closed, admissible, valid}
+use Rattle.year.proofs.Valid.{valid-before}
+use Rattle.year.specs.Cases.{setupOf, engine}
+use Rattle.journal.specs.Encode.{encode}
+use Rattle.journal.specs.Read.{readAs, readJournal}
+use Rattle.journal.proofs.Reading.{read-as}
+use Rattle.calls.specs.Call.{EnterEngine, Declare, Entry}
+use Rattle.calls.specs.Refusals.{refusals, refusal}
+use Rattle.calls.specs.Answers.{journalAfter, answer}
+use Rattle.commands.specs.Number.{digits, spelt, isNumber, numberAt}
+use Rattle.commands.specs.KeyLine.{spacedNumber, numbersFrom, callOf, commandOf}
+use Rattle.commands.specs.Reply.{decimalUpTo, decimal, replyTo, journalAfterLine}
+use Rattle.commands.specs.Run.{printed, run}
+use Rattle.commands.proofs.Steps.{Does, Stored, entry-does, refused-does, marks-does, end, then, runs-replies}
+
+-- the events of the run, after one, two and three engines and after the declaration
+abbrev one : List Event
+one = engine 1 998 ∷ []
+
+abbrev two : List Event
+two = engine 2 1071 ∷ one
+
+abbrev three : List Event
+three = engine 3 900 ∷ two
+
+abbrev declared : List Event
+declared = Declaration ∷ three
+
+-- the journal with them
+abbrev holding : List Event → List ℕ
+holding es = encode (setupOf 5000 800) es
+
+-- an engine of one reading for each pollutant
+abbrev entering : ℕ → ℕ → ℕ → Entry
+entering number hcnox co = EnterEngine number (record { hcnox = hcnox ∷ []; co = co ∷ [] })
+
+-- the deviations of 998, 1,071 and of 998, 1,071, 900
+of-2 : deviation 1024 2 5329 ≡ exactly 52857 1
+of-2 = deviation-unique 1024 2 5329 (lit≤ tt) 52857 (lit≤ tt) (lit< tt)
+
+of-3 : deviation 1024 3 44174 ≡ exactly 87863 1
+of-3 = deviation-unique 1024 3 44174 (lit≤ tt) 87863 (lit≤ tt) (lit< tt)
+
+-- the events could have been entered
+valid-declared : valid (setupOf 5000 800) declared ≡ true
+unfolding nearestEven variation t95 sizeReached compared failed undecided periods needs verdict closed admissible
+valid-declared = simp (of-2, of-3, deviation-none)
+
+valid-three : valid (setupOf 5000 800) three ≡ true
+valid-three = valid-before (setupOf 5000 800) Declaration three valid-declared
+
+valid-two : valid (setupOf 5000 800) two ≡ true
+valid-two = valid-before (setupOf 5000 800) (engine 3 900) two valid-three
+
+-- and so each journal is read as its year
+stored : (es : List Event) → length (holding es) ≡ 544 → readJournal (holding es) ≡ readAs (holding es) (setupOf 5000 800) es → valid (setupOf 5000 800) es ≡ true
+    → Stored (holding es) (setupOf 5000 800) es
+stored es size same v = record { size = size; isYear = same ∙ read-as (setupOf 5000 800) es v }
+
+stored-none : Stored (holding []) (setupOf 5000 800) []
+stored-none = stored [] refl refl refl
+
+stored-one : Stored (holding one) (setupOf 5000 800) one
+stored-one = stored one refl refl (valid-before (setupOf 5000 800) (engine 2 1071) one valid-two)
+
+stored-two : Stored (holding two) (setupOf 5000 800) two
+stored-two = stored two refl refl valid-two
+
+stored-three : Stored (holding three) (setupOf 5000 800) three
+stored-three = stored three refl refl valid-three
+
+stored-declared : Stored (holding declared) (setupOf 5000 800) declared
+stored-declared = stored declared refl refl valid-declared
+
+-- what each line does
+record Lines : Type 0 where
+  pub line1 : Does (text "S 5000 365 800 6100 0 0 0 0") (zeros 544) (text "OK 0 0 -- - -") (holding [])
+  pub line2 : Does (text "E 1 998000 5000000") (holding []) (text "OK 1 0 -- - -") (holding one)
+  pub line3 : Does (text "E 2 1071000 5000000") (holding one) (text "OK 2 1 ?U 30 10") (holding two)
+  pub line4 : Does (text "E 3 900000 5000000") (holding two) (text "OK 3 1 UU 28 10") (holding three)
+  pub line5 : Does (text "L") (holding three) (text "OK --?UUU") (holding three)
+  pub line6 : Does (text "X") (holding three) (text "OK 3 7 UU 28 10") (holding declared)
+  pub line7 : Does (text "E 4 1 1") (holding declared) (text "NO 8") (holding declared)
+
+lines : Lines
+unfolding put nearestEven variation t95 sampleSize roundedUp sizeReached compared failed undecided periods needs verdict closed admissible refusals refusal digits spelt isNumber numberAt spacedNumber numbersFrom callOf commandOf decimalUpTo decimal
+lines =
+    record {
+      line1 = unfold readAs journalAfter answer replyTo journalAfterLine in record { replied = refl; left = refl };
+      line2 = entry-does (holding []) (text "E 1 998000 5000000") (setupOf 5000 800) [] stored-none (entering 1 998000 5000000) (holding one) refl refl refl stored-one;
+      line3 = simp (of-2, deviation-none) at (entry-does (holding one) (text "E 2 1071000 5000000") (setupOf 5000 800) one stored-one
+          (entering 2 1071000 5000000) (holding two) refl refl refl stored-two);
+      line4 = simp (of-2, of-3, deviation-none) at (entry-does (holding two) (text "E 3 900000 5000000") (setupOf 5000 800) two stored-two
+          (entering 3 900000 5000000) (holding three) refl (simp (of-2, deviation-none)) refl stored-three);
+      line5 = simp (of-2, of-3, deviation-none) at (marks-does (holding three) (text "L") (setupOf 5000 800) three stored-three 80 refl refl);
+      line6 = simp (of-2, of-3, deviation-none) at (entry-does (holding three) (text "X") (setupOf 5000 800) three stored-three
+          Declare (holding declared) refl (simp (of-2, of-3, deviation-none)) refl stored-declared);
+      line7 = refused-does (holding declared) (text "E 4 1 1") (setupOf 5000 800) declared stored-declared (entering 4 1 1) 8 refl refl (lit< tt);
+    }
+
+pub document-run : run (text "S 5000 365 800 6100 0 0 0 0\nE 1 998000 5000000\nE 2 1071000 5000000\nE 3 900000 5000000\nL\nX\nE 4 1 1\n")
+    ≡ text "OK 0 0 -- - -\nOK 1 0 -- - -\nOK 2 1 ?U 30 10\nOK 3 1 UU 28 10\nOK --?UUU\nOK 3 7 UU 28 10\nNO 8\n"
+document-run =
+    ap printed (runs-replies (then (lines .line1) (then (lines .line2) (then (lines .line3) (then (lines .line4)
+    (then (lines .line5) (then (lines .line6) (then (lines .line7) end))))))))
