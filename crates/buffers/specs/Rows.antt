@@ -1,11 +1,11 @@
--- Tables of document 01 of which "the first that applies" is taken (its verdicts and its refusals), and ranges "from .. to ..".
+-- Tables of document 01 of which "the first that applies" is taken: its verdicts and its refusals.
 -- Assumes nothing.
 use mathlib.Core.Path.{_≡_}
 use mathlib.Core.Logic.{_⊎_}
 use mathlib.Core.Bool.{Bool, true, false, cond, _&&_, _||_}
 use mathlib.Core.List.{List, [], _∷_}
 use Prim.Native.Nat.{ℕ, _<_}
-use lib.Dec.{leb, eqb}
+use lib.Dec.{eqb}
 
 -- a row: whether it applies, and its number
 abbrev pub Row : Type 0
@@ -35,7 +35,3 @@ NoneApplies (row ∷ rows) = (row .0 ≡ false) × NoneApplies rows
 abbrev pub Numbered : List Row → Type 0
 Numbered [] = Unit {0}
 Numbered (row ∷ rows) = (0 < row .1) × Numbered rows
-
--- x is from low to high, both included
-abbrev pub within : ℕ → ℕ → ℕ → Bool
-within low high x = leb low x && leb x high

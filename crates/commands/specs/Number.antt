@@ -5,7 +5,7 @@ use mathlib.Core.List.{List, [], _∷_}
 use Prim.Native.Nat.{ℕ, suc, _+_, _*_, _-_}
 use lib.Dec.{eqb}
 use lib.ListN.{getD, take, drop}
-use Rattle.buffers.specs.Rows.{within}
+use Rattle.buffers.specs.Numbers.{within}
 use Rattle.buffers.specs.Text.{byte}
 use Rattle.commands.specs.declared.Number.{Number}
 use Rattle.commands.specs.declared.Number.the-variants.{Value, Nothing}

@@ -1,11 +1,11 @@
--- What the definition `nearestEven` owes: it is the nearest whole number, the even one where two are as near (ASTM E29), and no other number is.
+-- What the definition `nearestEven` owes (ASTM E29): "to the nearest, halves to the even neighbour", and that it is the only such number.
 -- Assumes nothing.
 use mathlib.Core.Path.{_≡_}
-use Prim.Native.Nat.{ℕ, _+_, _*_, _%_, _≤_}
+use mathlib.Core.Logic.{_≢_}
+use Prim.Native.Nat.{ℕ, _*_, _%_, _≤_}
+use Rattle.buffers.specs.Numbers.{distance}
 
--- q is nearest to a / b: the two are at most a half apart, so that |b × q − a| × 2 ≤ b; and at a half apart, on either side, q is even
+-- q is the whole number nearest to a / b, the even one where another is as near: b × p lies as far from a as p from a / b, taken b times
 pub record Nearest (a b q : ℕ) : Type 0 where
-  pub low : 2 * (b * q) ≤ 2 * a + b
-  pub high : 2 * a ≤ 2 * (b * q) + b
-  pub tieAbove : 2 * (b * q) ≡ 2 * a + b → q % 2 ≡ 0
-  pub tieBelow : 2 * a ≡ 2 * (b * q) + b → q % 2 ≡ 0
+  pub nearest : (p : ℕ) → distance (b * q) a ≤ distance (b * p) a
+  pub even : (p : ℕ) → p ≢ q → distance (b * p) a ≡ distance (b * q) a → q % 2 ≡ 0

@@ -5,7 +5,7 @@ use mathlib.Core.List.{List, [], _∷_, map}
 use Prim.Native.Nat.{ℕ, _+_, _*_, _/_, _%_}
 use lib.Dec.{leb, ltb, eqb}
 use lib.ListN.{length}
-use Rattle.buffers.specs.Rows.{within}
+use Rattle.buffers.specs.Numbers.{within}
 use Rattle.rounding.specs.declared.Factor.{Factor}
 
 -- a / b "to the nearest, halves to the even neighbour": down where the remainder is under half of b, up where it is over,

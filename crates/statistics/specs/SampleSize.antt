@@ -5,6 +5,7 @@ use mathlib.Core.List.{List, [], _∷_}
 use Prim.Native.Nat.{ℕ, _+_, _-_, _*_, _/_}
 use lib.Dec.{leb, ltb, eqb}
 use lib.ListN.{length, getD}
+use Rattle.buffers.specs.Numbers.{distance}
 use Rattle.statistics.specs.declared.SampleSize.{SampleSize}
 use Rattle.statistics.specs.declared.SampleSize.the-variants.{Tenths, Absent}
 use Rattle.statistics.specs.Spread.{Test, total, variation}
@@ -19,11 +20,8 @@ coefficients =
 unfoldable pub t95 : ℕ → ℕ
 t95 n = cond (leb n 30) (getD coefficients (n - 2) 0) 165
 
--- "Let G = S − n × T, which may be negative": its size, the distance of S and n × T. Its sign is asked where it matters
-abbrev pub distance : ℕ → ℕ → ℕ
-distance a b = (a - b) + (b - a)
-
--- n engines with variation v and sum s, the newest under the standard t
+-- "Let G = S − n × T, which may be negative": its size is the distance of S and n × T, and its sign is asked where it matters.
+-- N of n engines with variation v and sum s, the newest under the standard t
 module _ (n v s t : ℕ) where
   -- "N = 1 + t95² × V × n / (10,000 × (n − 1) × G²)": the fraction's denominator, and N's numerator over it
   abbrev pub denominator : ℕ

@@ -77,6 +77,7 @@ cases =
       verdictAmended = simp deviation-none;
       testsAmended = refl;
       statusOfOne = refl;
+      nAmended = refl;
       failedIsClosed = simp deviation-none;
       threeIsValid = simp deviation-none;
       numberTwice = refl;

@@ -2,4 +2,4 @@ pub mod Cases
 pub mod Replayed
 pub mod Finer
 pub mod Valid
-pub mod Amended
+pub mod Kept

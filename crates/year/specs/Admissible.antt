@@ -6,7 +6,7 @@ use mathlib.Core.List.{List, [], _∷_}
 use Prim.Native.Nat.{ℕ}
 use lib.Dec.{eqb}
 use lib.ListN.{length}
-use Rattle.buffers.specs.Rows.{within}
+use Rattle.buffers.specs.Numbers.{within}
 use Rattle.rounding.specs.Result.{countInRange, resultInRange}
 use Rattle.year.specs.declared.Pair.{Pair}
 use Rattle.year.specs.declared.Setup.{Setup}

@@ -68,6 +68,8 @@ pub record Cases : Type 0 where
       ≡ record { result = 900; standard = 700 } ∷ record { result = 998; standard = 800 } ∷ []
   -- with one engine only n, S and the verdict are shown
   pub statusOfOne : status 1024 (replay (setupOf 5000 800) (engine 1 998 ∷ [])) ≡ record { n = 1; verdict = 0; hcnox = blank 998; co = blank 5000 }
+  -- n counts engines, not events
+  pub nAmended : status 1024 (replay (setupOf 5000 800) (Amendment (pair 700 6100) ∷ engine 1 998 ∷ [])) .n ≡ 1
   -- nothing follows a failure, no number comes twice, and no period follows a short one
   pub failedIsClosed : valid (setupOf 5000 100) (NextPeriod ∷ three) ≡ false
   pub threeIsValid : valid (setupOf 5000 100) three ≡ true

@@ -3,7 +3,7 @@
 use mathlib.Core.Bool.{Bool, _&&_, _||_}
 use Prim.Native.Nat.{ℕ, _%_}
 use lib.Dec.{eqb}
-use Rattle.buffers.specs.Rows.{within}
+use Rattle.buffers.specs.Numbers.{within}
 use Rattle.rounding.specs.declared.Factor.{Factor}
 use Rattle.rounding.specs.Result.{factorInRange}
 use Rattle.year.specs.declared.Pair.{Pair}

@@ -1,5 +1,5 @@
--- "An amendment alters no N, mark or verdict already worked": every figure stays, at every resolution. And one more engine adds its two marks at the end
--- and changes none.
+-- What one more event leaves as it was. "An amendment alters no N, mark or verdict already worked": every figure stays, at every resolution. One more
+-- engine adds its two marks at the end and changes none.
 -- Assumes nothing.
 use mathlib.Core.Path.{_≡_, refl}
 use mathlib.Core.List.{List, [], _∷_, _++_}
