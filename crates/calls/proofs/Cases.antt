@@ -60,5 +60,8 @@ cases =
       modelOfNone = refl;
       modelOfOne = refl;
       modelOfTwo = refl;
+      acceptedInList = refl;
+      refusedInList = refl;
+      journalOfOne = refl;
       modelAnew = refl;
     }

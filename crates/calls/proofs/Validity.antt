@@ -1,7 +1,7 @@
 -- The event of an accepted entry is admissible, and so every list of calls leaves the reference model with a year that could have been entered.
 -- Assumes nothing.
 use mathlib.Core.Path.{_≡_, refl}
-use mathlib.Core.Bool.{true, false, not, and-eq-true-iff}
+use mathlib.Core.Bool.{Bool, true, false, not, _&&_, _||_, and-eq-true-iff, false≢true}
 use mathlib.Core.List.{List, [], _∷_}
 use Prim.Native.Nat.{ℕ}
 use native.Mathlib.Omega.{arith}
@@ -14,15 +14,15 @@ use Rattle.buffers.proofs.Tests.{by-test, and-true, or-false, false-not, not-fa
 use Rattle.rounding.specs.Result.{countInRange}
 use Rattle.year.specs.declared.Setup.{Setup}
 use Rattle.year.specs.declared.Event.{Event}
-use Rattle.year.specs.Setup.{standardsInRange, volumeInRange, factorsInRange, setupInRange}
-use Rattle.year.specs.Replay.{Progress, replay}
-use Rattle.year.specs.Admissible.{closed, eventsFull, numberFree, resultsInRange, fits, admissible, valid}
+use Rattle.year.specs.Setup.{standardsInRange, productionInRange, factorsInRange, setupInRange}
+use Rattle.year.specs.Replay.{Progress, replay, isTested}
+use Rattle.year.specs.Admissible.{closed, eventsFull, numberInRange, resultsInRange, fits, admissible, valid}
 use Rattle.year.specs.Model.{Model, NoSetup, Year}
 use Rattle.year.proofs.Valid.{valid-next}
 use Rattle.year.proofs.Replayed.{replay-setup}
-use Rattle.calls.specs.Call.{Entry, EnterEngine, Amend, BeginPeriod, Declare, Call, SetUp, Enter, ReadStatus, WriteMarks, resultsOf, eventOf}
-use Rattle.calls.specs.Refusals.{refusals, refusal}
-use Rattle.calls.specs.Model.{accepted, stepModel, modelOf}
+use Rattle.calls.specs.Call.{Entry, EnterEngine, Amend, BeginPeriod, Declare, Call, SetUp, Enter, ReadStatus, WriteMarks, resultsOf, eventOf, isSetup}
+use Rattle.calls.specs.Refusals.{noSetup, refusals, refusal}
+use Rattle.calls.specs.Model.{accepted, stepModel, modelOf, setupAccepted}
 
 refusals-numbered : (size : ℕ) (call : Call) (model : Model) → Numbered (refusals size call model)
 unfolding refusals
@@ -57,9 +57,10 @@ module _ (s : Setup) (es : List Event) where
   fitting (EnterEngine number readings) h =
       let n = rows (EnterEngine number readings) h .1 .1 .1 .1 .1 .1 .1 in
       let counts = and-eq-true-iff (eqb (length (readings .hcnox)) (length (readings .co))) (countInRange (length (readings .hcnox))) .0 (not-false _ (n .1 .0)) in
-      let free = not-false (numberFree (replay s es) number) (n .0) in
+      let free = or-false (not (numberInRange number)) (isTested number (replay s es .tested)) (n .0) in
+      let number-fits = and-true (not-false (numberInRange number) (free .0)) (false-not (free .1)) in
       let results = not-false (resultsInRange (resultsOf (replay s es .setup) readings)) (n .1 .1 .1 .0) in
-      and-true (and-true (and-true free (counts .1)) (rw (replay-setup s es) at results)) (false-not (n .1 .1 .1 .1 .0))
+      and-true (and-true (and-true number-fits (counts .1)) (rw (replay-setup s es) at results)) (false-not (n .1 .1 .1 .1 .0))
   fitting (Amend standards) h = not-false _ (rows (Amend standards) h .1 .1 .0)
   fitting BeginPeriod h = false-not (rows BeginPeriod h .1 .1 .1 .1 .1 .1 .1 .1 .1 .1 .1 .1 .0)
   fitting Declare h = refl
@@ -77,7 +78,7 @@ unfolding refusals
 setup-valid s model h =
     let n = not-refused 544 (SetUp s) model h .1 in
     let standards = or-false (not (standardsInRange (s .standards))) false (n .1 .0) .0 in
-    and-true (and-true (not-false (volumeInRange s) (n .0)) (not-false (standardsInRange (s .standards)) standards)) (not-false (factorsInRange s) (n .1 .1 .0))
+    and-true (and-true (not-false (productionInRange s) (n .0)) (not-false (standardsInRange (s .standards)) standards)) (not-false (factorsInRange s) (n .1 .1 .0))
 
 accepted-valid : (call : Call) (model : Model) → refusal 544 call model ≡ 0 → ValidModel model → ValidModel (accepted call model)
 accepted-valid (SetUp s) model h v = setup-valid s model h

@@ -52,7 +52,8 @@ abbrev pub statusOf : Model → Status
 statusOf NoSetup = noStatus
 statusOf (Year s es) = status 1024 (replay s es)
 
--- "An accepted setup or entry returns the status of the book that it leaves", and status that of the book that it reads. "A refusal returns its number"
+-- "An accepted setup or entry returns the status of the book that it leaves", and status that of the book that it reads. "A refusal returns its number".
+-- (A marks call gives back a part and its refusal, and no answer.)
 unfoldable pub answer : Call → List ℕ → Answer
 answer call journal = ifAccepted call journal (Accepted (statusOf (readJournal (journalAfter call journal)))) (Refused (refusalOn call journal))
 

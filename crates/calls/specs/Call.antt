@@ -1,6 +1,6 @@
 -- The calls of document 01 with their arguments, of any value; and the event that an entry adds to a year.
 -- Assumes nothing.
-use mathlib.Core.Bool.{Bool, false}
+use mathlib.Core.Bool.{Bool, true, false}
 use mathlib.Core.List.{List}
 use Prim.Native.Nat.{ℕ}
 use lib.ListN.{length}
@@ -45,6 +45,19 @@ eventOf s (EnterEngine number readings) = Engine number (length (readings .hcnox
 eventOf s (Amend standards) = Amendment standards
 eventOf s BeginPeriod = NextPeriod
 eventOf s Declare = Declaration
+
+abbrev pub isSetup : Call → Bool
+isSetup (SetUp s) = true
+isSetup (Enter entry) = false
+isSetup ReadStatus = false
+isSetup (WriteMarks size) = false
+
+-- "the call would add an event": the entries do
+abbrev pub addsEvent : Call → Bool
+addsEvent (SetUp s) = false
+addsEvent (Enter entry) = true
+addsEvent ReadStatus = false
+addsEvent (WriteMarks size) = false
 
 -- A test of a call's arguments, by the kind of call; of any other call it does not hold.
 abbrev pub ofSetup : (Setup → Bool) → Call → Bool

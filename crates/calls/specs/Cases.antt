@@ -1,7 +1,9 @@
--- Worked cases of the calls: each refusal by itself, some together with the next in order, and what accepted and refused calls leave.
+-- Worked cases of the calls: each refusal but 14 (`year`'s cases have forty engines), some together with the next in order, and what accepted and refused
+-- calls leave.
 -- Lists of events and of calls have the newest first.
 -- Assumes nothing.
 use mathlib.Core.Path.{_≡_}
+use mathlib.Core.Bool.{true, false}
 use mathlib.Core.List.{List, [], _∷_}
 use Prim.Native.Nat.{ℕ}
 use lib.ListN.{replicate}
@@ -20,7 +22,7 @@ use Rattle.calls.specs.declared.Answer.the-variants.{Accepted, Refused}
 use Rattle.calls.specs.Call.{EnterEngine, Amend, BeginPeriod, Declare, Call, SetUp, Enter, ReadStatus, WriteMarks}
 use Rattle.calls.specs.Refusals.{refusal}
 use Rattle.calls.specs.Answers.{noStatus, answer, journalAfter, outAfter, marksPart}
-use Rattle.calls.specs.Model.{modelOf}
+use Rattle.calls.specs.Model.{modelOf, journalOf, setupAccepted}
 
 -- a setup of this volume, these standards and this HC+NOx factor
 abbrev pub setupWith : ℕ → Pair → Factor → Setup
@@ -36,11 +38,11 @@ abbrev pub entering : ℕ → List ℕ → List ℕ → Call
 entering number hcnox co = Enter (EnterEngine number (record { hcnox = hcnox; co = co }))
 
 -- the call of the printed run's first and second lines
-abbrev pub setting : Call
-setting = SetUp (setupOf 5000 800)
+abbrev pub newYear : Call
+newYear = SetUp (setupOf 5000 800)
 
-abbrev pub first : Call
-first = entering 1 (998000 ∷ []) (5000000 ∷ [])
+abbrev pub engineOne : Call
+engineOne = entering 1 (998000 ∷ []) (5000000 ∷ [])
 
 pub record Cases : Type 0 where
   -- 3, before all others
@@ -51,7 +53,7 @@ pub record Cases : Type 0 where
   pub factorKind : refusal 544 (SetUp (setupWith 5000 (pair 800 6100) (record { kind = 2; value = 0 }))) NoSetup ≡ 6
   pub factorBelow : refusal 544 (SetUp (setupWith 5000 (pair 800 6100) (record { kind = 1; value = 999 }))) NoSetup ≡ 6
   -- a setup asks nothing of the journal
-  pub setupOverDeclared : refusal 544 setting (yearOf (Declaration ∷ [])) ≡ 0
+  pub setupOverDeclared : refusal 544 newYear (yearOf (Declaration ∷ [])) ≡ 0
   -- 5 of an amendment is checked before 7
   pub amendmentStandard : refusal 544 (Enter (Amend (pair 15 10))) NoSetup ≡ 5
   pub amendmentNoSetup : refusal 544 (Enter (Amend (pair 20 10))) NoSetup ≡ 7
@@ -83,20 +85,25 @@ pub record Cases : Type 0 where
   pub marksSize : refusal 544 (WriteMarks 1) (yearOf (engine 1 998 ∷ [])) ≡ 16
   pub marksFit : refusal 544 (WriteMarks 2) (yearOf (engine 1 998 ∷ [])) ≡ 0
   -- on bytes: a refused call leaves them, and gives zeros; a setup writes all, an entry adds its event
-  pub refusedLeaves : journalAfter first (zeros 544) ≡ zeros 544
-  pub declaredLeaves : journalAfter first (encode (setupOf 5000 800) (Declaration ∷ [])) ≡ encode (setupOf 5000 800) (Declaration ∷ [])
-  pub refusedAnswer : answer first (zeros 544) ≡ Refused 7
-  pub setupWrites : journalAfter setting (zeros 544) ≡ encode (setupOf 5000 800) []
-  pub setupAnswer : answer setting (zeros 544) ≡ Accepted noStatus
-  pub entryWrites : journalAfter first (encode (setupOf 5000 800) []) ≡ encode (setupOf 5000 800) (engine 1 998 ∷ [])
+  pub refusedLeaves : journalAfter engineOne (zeros 544) ≡ zeros 544
+  pub declaredLeaves : journalAfter engineOne (encode (setupOf 5000 800) (Declaration ∷ [])) ≡ encode (setupOf 5000 800) (Declaration ∷ [])
+  pub refusedAnswer : answer engineOne (zeros 544) ≡ Refused 7
+  pub setupWrites : journalAfter newYear (zeros 544) ≡ encode (setupOf 5000 800) []
+  pub setupAnswer : answer newYear (zeros 544) ≡ Accepted noStatus
+  pub entryWrites : journalAfter engineOne (encode (setupOf 5000 800) []) ≡ encode (setupOf 5000 800) (engine 1 998 ∷ [])
   -- the status that an entry gives is that of the journal that it leaves: one engine, short, S 998 and 5,000
-  pub entryAnswer : answer first (encode (setupOf 5000 800) []) ≡ Accepted (record { n = 1; verdict = 0; hcnox = blank 998; co = blank 5000 })
+  pub entryAnswer : answer engineOne (encode (setupOf 5000 800) []) ≡ Accepted (record { n = 1; verdict = 0; hcnox = blank 998; co = blank 5000 })
   -- marks at the front of the output, the rest of it as it was; refused, all of it as it was
   pub marksWritten : outAfter (encode (setupOf 5000 800) (engine 1 998 ∷ [])) (1 ∷ 2 ∷ 3 ∷ []) ≡ 45 ∷ 45 ∷ 3 ∷ []
   pub marksHandedBack : marksPart (encode (setupOf 5000 800) (engine 1 998 ∷ [])) (1 ∷ 2 ∷ 3 ∷ []) ≡ 45 ∷ 45 ∷ []
   pub marksRefused : outAfter (encode (setupOf 5000 800) (engine 1 998 ∷ [])) (1 ∷ []) ≡ 1 ∷ []
   -- the model of a list: what comes before an accepted setup is refused, a second setup starts anew
-  pub modelOfNone : modelOf (Enter Declare ∷ first ∷ []) ≡ NoSetup
-  pub modelOfOne : modelOf (first ∷ first ∷ setting ∷ first ∷ []) ≡ yearOf (engine 1 998 ∷ [])
-  pub modelOfTwo : modelOf (Enter (Amend (pair 700 6100)) ∷ first ∷ setting ∷ []) ≡ yearOf (Amendment (pair 700 6100) ∷ engine 1 998 ∷ [])
-  pub modelAnew : modelOf (setting ∷ Enter Declare ∷ first ∷ setting ∷ []) ≡ yearOf []
+  pub modelOfNone : modelOf (Enter Declare ∷ engineOne ∷ []) ≡ NoSetup
+  pub modelOfOne : modelOf (engineOne ∷ engineOne ∷ newYear ∷ engineOne ∷ []) ≡ yearOf (engine 1 998 ∷ [])
+  pub modelOfTwo : modelOf (Enter (Amend (pair 700 6100)) ∷ engineOne ∷ newYear ∷ []) ≡ yearOf (Amendment (pair 700 6100) ∷ engine 1 998 ∷ [])
+  -- an accepted setup in a list, and only a refused one
+  pub acceptedInList : setupAccepted (Enter Declare ∷ newYear ∷ []) ≡ true
+  pub refusedInList : setupAccepted (SetUp (setupWith 0 (pair 800 6100) noFactor) ∷ []) ≡ false
+  -- the journal after the same lists
+  pub journalOfOne : journalOf (engineOne ∷ engineOne ∷ newYear ∷ engineOne ∷ []) ≡ encode (setupOf 5000 800) (engine 1 998 ∷ [])
+  pub modelAnew : modelOf (newYear ∷ Enter Declare ∷ engineOne ∷ newYear ∷ []) ≡ yearOf []

@@ -1,9 +1,10 @@
 -- Document 01, "The plain year of a list of calls": the reference model ("plain year"), fed the arguments of calls alone.
 -- Assumes nothing.
-use mathlib.Core.Bool.{cond}
+use mathlib.Core.Bool.{Bool, false, cond, _&&_, _||_}
 use mathlib.Core.List.{List, [], _∷_}
 use Prim.Native.Nat.{ℕ, _*_}
 use lib.Dec.{eqb}
+use Rattle.buffers.specs.Bytes.{zeros}
 use Rattle.cumsum.specs.declared.Interval.{Interval}
 use Rattle.cumsum.specs.declared.Mark.{Mark}
 use Rattle.cumsum.specs.Intervals.{cumsum, actionLimit}
@@ -14,8 +15,9 @@ use Rattle.year.specs.Replay.{replay, history}
 use Rattle.year.specs.Verdict.{verdict}
 use Rattle.year.specs.Status.{printedMarks}
 use Rattle.year.specs.Model.{Model, NoSetup, Year}
-use Rattle.calls.specs.Call.{Entry, Call, SetUp, Enter, ReadStatus, WriteMarks, eventOf}
+use Rattle.calls.specs.Call.{Entry, Call, SetUp, Enter, ReadStatus, WriteMarks, eventOf, isSetup}
 use Rattle.calls.specs.Refusals.{refusal}
+use Rattle.calls.specs.Answers.{journalAfter}
 
 -- "Each other accepted entry adds its event at the end": the newest event comes first in the list
 abbrev pub withEvent : Entry → Model → Model
@@ -37,6 +39,16 @@ stepModel call model = cond (eqb (refusal 544 call model) 0) (accepted call mode
 abbrev pub modelOf : List Call → Model
 modelOf [] = NoSetup
 modelOf (call ∷ calls) = stepModel call (modelOf calls)
+
+-- "The book buffer has 544 bytes, all zero before the first call. Each call is lent it as the last one left it": the journal after the same list
+abbrev pub journalOf : List Call → List ℕ
+journalOf [] = zeros 544
+journalOf (call ∷ calls) = journalAfter call (journalOf calls)
+
+-- demand 3: a list of calls "with an accepted setup in it"
+abbrev pub setupAccepted : List Call → Bool
+setupAccepted [] = false
+setupAccepted (call ∷ calls) = isSetup call && eqb (refusal 544 call (modelOf calls)) 0 || setupAccepted calls
 
 -- "At m it has the marks, brackets and verdict that the definitions give for this setup and these events in work at m." An interval is that of the newest
 -- engine; "from engine 2 on, status gives" those at m = 1

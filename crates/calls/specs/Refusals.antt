@@ -8,11 +8,11 @@ use lib.Dec.{eqb, ltb}
 use lib.ListN.{length}
 use Rattle.buffers.specs.Rows.{Row, first}
 use Rattle.rounding.specs.Result.{countInRange, readingInRange}
-use Rattle.year.specs.Setup.{both, standardsInRange, volumeInRange, factorsInRange}
-use Rattle.year.specs.Replay.{short}
-use Rattle.year.specs.Admissible.{closed, eventsFull, enginesFull, numberFree, resultsInRange, lastPeriod}
+use Rattle.year.specs.Setup.{both, standardsInRange, productionInRange, factorsInRange}
+use Rattle.year.specs.Replay.{short, isTested}
+use Rattle.year.specs.Admissible.{closed, eventsFull, enginesFull, numberInRange, resultsInRange, lastPeriod}
 use Rattle.year.specs.Model.{Model, NoSetup, Year, ofYear}
-use Rattle.calls.specs.Call.{Readings, readingsOf, Call, resultsOf, ofSetup, ofEntry, ofMarks, ofEngine, ofAmendment, ofPeriod}
+use Rattle.calls.specs.Call.{Readings, readingsOf, Call, resultsOf, isSetup, addsEvent, ofSetup, ofEntry, ofMarks, ofEngine, ofAmendment, ofPeriod}
 
 abbrev pub noSetup : Model → Bool
 noSetup NoSetup = true
@@ -36,19 +36,19 @@ refusals size call model =
     -- The book buffer is not 544 bytes.
     (not (eqb size 544), 3)
     -- P or D is out of range.
-    ∷ (ofSetup (λ s. not (volumeInRange s)) call, 4)
+    ∷ (ofSetup (λ s. not (productionInRange s)) call, 4)
     -- A standard is out of range or no multiple of ten.
     ∷ (ofSetup (λ s. not (standardsInRange (s .standards))) call || ofEntry (ofAmendment (λ standards. not (standardsInRange standards))) call, 5)
     -- A factor or its kind is out of range.
     ∷ (ofSetup (λ s. not (factorsInRange s)) call, 6)
     -- The buffer is no accepted book (not checked by setup).
-    ∷ (not (ofSetup (λ _. true) call) && noSetup model, 7)
+    ∷ (not (isSetup call) && noSetup model, 7)
     -- The verdict is 6 or 7 and the call would add an event.
-    ∷ (ofEntry (λ _. true) call && ofYear closed model, 8)
+    ∷ (addsEvent call && ofYear closed model, 8)
     -- 64 events are stored and the call would add one.
-    ∷ (ofEntry (λ _. true) call && ofYear eventsFull model, 9)
+    ∷ (addsEvent call && ofYear eventsFull model, 9)
     -- The engine number is out of range or in the book.
-    ∷ (ofEntry (ofEngine (λ number readings. ofYear (λ p. not (numberFree p number)) model)) call, 10)
+    ∷ (ofEntry (ofEngine (λ number readings. not (numberInRange number) || ofYear (λ p. isTested number (p .tested)) model)) call, 10)
     -- The reading counts differ or are not 1 to 3.
     ∷ (ofEntry (ofEngine (λ number readings. not (countsFit readings))) call, 11)
     -- A reading is above 20,000,000.
@@ -63,6 +63,6 @@ refusals size call model =
     ∷ (ofMarks (λ out. ofYear (λ p. ltb out (2 * length (p .tested))) model) call, 16)
     ∷ []
 
--- "the first that applies, in 01's order, is the one returned"; 0 where none does
+-- demand 1: "the first that applies, in 01's order, is the one returned"; 0 where none does
 unfoldable pub refusal : ℕ → Call → Model → ℕ
 refusal size call model = first (refusals size call model) 0

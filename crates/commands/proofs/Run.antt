@@ -13,6 +13,10 @@ use Rattle.statistics.specs.Spread.{variation, deviation}
 use Rattle.statistics.specs.SampleSize.{t95, sampleSize, sizeReached, roundedUp}
 use Rattle.statistics.specs.Cases.{exactly}
 use Rattle.statistics.proofs.Deviations.{deviation-unique, deviation-none}
+use Rattle.statistics.specs.declared.SampleSize.{SampleSize}
+use Rattle.statistics.specs.declared.SampleSize.the-variants.{Tenths, Absent}
+use Rattle.cumsum.specs.declared.Mark.{Mark}
+use Rattle.cumsum.specs.declared.Mark.the-variants.{Unmarked, Under, Undecided}
 use Rattle.cumsum.specs.Marks.{compared, failed, undecided}
 use Rattle.year.specs.declared.Event.{Event}
 use Rattle.year.specs.declared.Event.the-variants.{Declaration}
@@ -29,7 +33,8 @@ use Rattle.calls.specs.Refusals.{refusals, refusal}
 use Rattle.calls.specs.Answers.{journalAfter, answer}
 use Rattle.commands.specs.Number.{digits, spelt, isNumber, numberAt}
 use Rattle.commands.specs.KeyLine.{spacedNumber, numbersFrom, callOf, commandOf}
-use Rattle.commands.specs.Reply.{decimalUpTo, decimal, replyTo, journalAfterLine}
+use Rattle.commands.specs.Reply.{decimalUpTo, decimal, refusalReply, statusReply, replyTo, journalAfterLine}
+use Rattle.commands.specs.Cases.{marked}
 use Rattle.commands.specs.Run.{printed, run}
 use Rattle.commands.proofs.Steps.{Does, Stored, entry-does, refused-does, marks-does, end, then, runs-replies}
 
@@ -92,18 +97,22 @@ stored-three = stored three refl refl valid-three
 stored-declared : Stored (holding declared) (setupOf 5000 800) declared
 stored-declared = stored declared refl refl valid-declared
 
+-- the reply that shows n, a verdict, marks and sample sizes
+abbrev shown : ℕ → ℕ → Mark → Mark → SampleSize → SampleSize → List ℕ
+shown n v a b sizeA sizeB = statusReply (record { n = n; verdict = v; hcnox = marked a sizeA; co = marked b sizeB })
+
 -- what each line does
 record Lines : Type 0 where
-  pub line1 : Does (text "S 5000 365 800 6100 0 0 0 0") (zeros 544) (text "OK 0 0 -- - -") (holding [])
-  pub line2 : Does (text "E 1 998000 5000000") (holding []) (text "OK 1 0 -- - -") (holding one)
-  pub line3 : Does (text "E 2 1071000 5000000") (holding one) (text "OK 2 1 ?U 30 10") (holding two)
-  pub line4 : Does (text "E 3 900000 5000000") (holding two) (text "OK 3 1 UU 28 10") (holding three)
+  pub line1 : Does (text "S 5000 365 800 6100 0 0 0 0") (zeros 544) (shown 0 0 Unmarked Unmarked Absent Absent) (holding [])
+  pub line2 : Does (text "E 1 998000 5000000") (holding []) (shown 1 0 Unmarked Unmarked Absent Absent) (holding one)
+  pub line3 : Does (text "E 2 1071000 5000000") (holding one) (shown 2 1 Undecided Under (Tenths 30) (Tenths 10)) (holding two)
+  pub line4 : Does (text "E 3 900000 5000000") (holding two) (shown 3 1 Under Under (Tenths 28) (Tenths 10)) (holding three)
   pub line5 : Does (text "L") (holding three) (text "OK --?UUU") (holding three)
-  pub line6 : Does (text "X") (holding three) (text "OK 3 7 UU 28 10") (holding declared)
-  pub line7 : Does (text "E 4 1 1") (holding declared) (text "NO 8") (holding declared)
+  pub line6 : Does (text "X") (holding three) (shown 3 7 Under Under (Tenths 28) (Tenths 10)) (holding declared)
+  pub line7 : Does (text "E 4 1 1") (holding declared) (refusalReply 8) (holding declared)
 
 lines : Lines
-unfolding put nearestEven variation t95 sampleSize roundedUp sizeReached compared failed undecided periods needs verdict closed admissible refusals refusal digits spelt isNumber numberAt spacedNumber numbersFrom callOf commandOf decimalUpTo decimal
+unfolding put nearestEven variation t95 sampleSize roundedUp sizeReached compared failed undecided periods needs verdict closed admissible refusals refusal digits spelt isNumber numberAt spacedNumber numbersFrom callOf commandOf
 lines =
     record {
       line1 = unfold readAs journalAfter answer replyTo journalAfterLine in record { replied = refl; left = refl };
@@ -120,6 +129,7 @@ lines =
 
 pub document-run : run (text "S 5000 365 800 6100 0 0 0 0\nE 1 998000 5000000\nE 2 1071000 5000000\nE 3 900000 5000000\nL\nX\nE 4 1 1\n")
     ≡ text "OK 0 0 -- - -\nOK 1 0 -- - -\nOK 2 1 ?U 30 10\nOK 3 1 UU 28 10\nOK --?UUU\nOK 3 7 UU 28 10\nNO 8\n"
+unfolding decimalUpTo decimal
 document-run =
     ap printed (runs-replies (then (lines .line1) (then (lines .line2) (then (lines .line3) (then (lines .line4)
     (then (lines .line5) (then (lines .line6) (then (lines .line7) end))))))))

@@ -13,19 +13,19 @@ use Rattle.journal.specs.Read.{readJournal}
 use Rattle.calls.specs.declared.Answer.{Answer}
 use Rattle.calls.specs.declared.Answer.the-variants.{Accepted, Refused}
 use Rattle.calls.specs.Call.{Call, SetUp, Enter, ReadStatus, WriteMarks}
-use Rattle.calls.specs.Answers.{answer, journalAfter, markBytes}
+use Rattle.calls.specs.Answers.{refusalOn, ifAccepted, answer, journalAfter, markBytes}
 use Rattle.commands.specs.KeyLine.{Command, Make, Refuse, commandOf}
 
--- "Every number is decimal": its digits, at most `most` of them, and no leading zero but in 0
+-- "Every number is decimal": its digits, at most `most` of them, with no leading zero but in 0
 unfoldable pub decimalUpTo : ℕ → ℕ → List ℕ
 decimalUpTo zero n = []
 decimalUpTo (suc most) n = cond (ltb n 10) ((byte "0" + n) ∷ []) (decimalUpTo most (n / 10) ++ ((byte "0" + n % 10) ∷ []))
 
--- every figure of a reply is below 2^64 and so has at most 20 digits
+-- a number n has no more than n + 1 digits
 unfoldable pub decimal : ℕ → List ℕ
-decimal n = decimalUpTo 20 n
+decimal n = decimalUpTo (suc n) n
 
--- bytes with a space in front of it
+-- bytes with a space in front of them
 abbrev pub spaced : List ℕ → List ℕ
 spaced bytes = byte " " ∷ bytes
 
@@ -49,16 +49,16 @@ statusReply s =
     text "OK" ++ spaced (decimal (s .n)) ++ spaced (decimal (s .verdict)) ++ spaced (markByte (s .hcnox .mark) ∷ markByte (s .co .mark) ∷ [])
     ++ spaced (sizeText (s .hcnox .size)) ++ spaced (sizeText (s .co .size))
 
-abbrev pub replyWith : (Status → List ℕ) → Answer → List ℕ
-replyWith told (Accepted s) = told s
-replyWith told (Refused number) = refusalReply number
+abbrev pub answerReply : Answer → List ℕ
+answerReply (Accepted s) = statusReply s
+answerReply (Refused number) = refusalReply number
 
 -- the reply to a call on a journal: the marks for a marks call, the status for any other
 abbrev pub callReply : Call → List ℕ → List ℕ
-callReply (SetUp s) journal = replyWith statusReply (answer (SetUp s) journal)
-callReply (Enter entry) journal = replyWith statusReply (answer (Enter entry) journal)
-callReply ReadStatus journal = replyWith statusReply (answer ReadStatus journal)
-callReply (WriteMarks size) journal = replyWith (λ _. marksReply (markBytes (readJournal journal))) (answer (WriteMarks size) journal)
+callReply (SetUp s) journal = answerReply (answer (SetUp s) journal)
+callReply (Enter entry) journal = answerReply (answer (Enter entry) journal)
+callReply ReadStatus journal = answerReply (answer ReadStatus journal)
+callReply (WriteMarks size) journal = ifAccepted (WriteMarks size) journal (marksReply (markBytes (readJournal journal))) (refusalReply (refusalOn (WriteMarks size) journal))
 
 abbrev pub commandReply : Command → List ℕ → List ℕ
 commandReply (Make call) journal = callReply call journal

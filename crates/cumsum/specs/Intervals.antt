@@ -1,4 +1,4 @@
--- Document 01, "Spread, brackets, marks": CumSum C and action limit H of one pollutant at resolution k ("fineness k"), each as an interval ("bracket")
+-- Document 01, "Spread, brackets, marks": CumSum C and action limit H of one pollutant at resolution k ("fineness"), each as an interval ("bracket")
 -- in units of 1/(4k) result unit. A history lists the engines with the newest first.
 -- Assumes nothing.
 use mathlib.Core.List.{List, [], _∷_}
@@ -6,7 +6,7 @@ use Prim.Native.Nat.{ℕ, _+_, _*_, _-_}
 use Rattle.statistics.specs.Spread.{Test, deviationOf}
 use Rattle.cumsum.specs.declared.Interval.{Interval}
 
--- "max(0, previous C + 4k × (X − T) − w)": `-` stops at 0, so the sum of what is added comes first
+-- max(0, previous + 4k × (X − T) − w). `-` stops at 0, so all that is added comes first
 abbrev pub next : ℕ → Test → ℕ → ℕ → ℕ
 next k x w previous = previous + 4 * k * x .result - (4 * k * x .standard + w)
 

@@ -30,6 +30,7 @@ cases =
       readZeros = refl;
       otherVersion = refl;
       dirtyHeader = refl;
+      dirtySlot = refl;
       dirtyUnused = refl;
       otherKind = refl;
       tooLong = refl;

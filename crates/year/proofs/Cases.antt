@@ -50,12 +50,12 @@ starred-cases =
       markOfTwoAt8 = rw (statistics.cases .deviationAt8192);
       marksOfThree = simp deviation-none;
       threeFailed = simp deviation-none;
-      sizeOfEight = refl;
-      sizeOfEightCo = refl;
-      verdictOfEight = simp deviation-none;
-      sizeOfTen = refl;
-      markOfTen = simp deviation-none;
-      verdictOfTen = simp deviation-none;
+      sizeOf800 = refl;
+      sizeOf800Co = refl;
+      verdictOf800 = simp deviation-none;
+      sizeOf1000 = refl;
+      markOf1000 = simp deviation-none;
+      verdictOf1000 = simp deviation-none;
     }
 
 pub cases : Cases
@@ -77,6 +77,8 @@ cases =
       verdictAmended = simp deviation-none;
       testsAmended = refl;
       statusOfOne = refl;
+      fortyFull = refl;
+      thirtyNineNotFull = refl;
       nAmended = refl;
       failedIsClosed = simp deviation-none;
       threeIsValid = simp deviation-none;

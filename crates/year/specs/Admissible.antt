@@ -4,7 +4,7 @@
 use mathlib.Core.Bool.{Bool, true, not, _&&_, _||_}
 use mathlib.Core.List.{List, [], _∷_}
 use Prim.Native.Nat.{ℕ}
-use lib.Dec.{eqb}
+use lib.Dec.{eqb, leb}
 use lib.ListN.{length}
 use Rattle.buffers.specs.Numbers.{within}
 use Rattle.rounding.specs.Result.{countInRange, resultInRange}
@@ -21,27 +21,27 @@ use Rattle.year.specs.Verdict.{verdict}
 unfoldable pub closed : Progress → Bool
 closed p = eqb (verdict 1024 p) 6 || eqb (verdict 1024 p) 7
 
--- "64 events are stored", "Forty engines are stored"
+-- "64 events are stored", "Forty engines are stored"; more of them never are
 abbrev pub eventsFull : Progress → Bool
-eventsFull p = eqb (p .stored) 64
+eventsFull p = leb 64 (p .stored)
 
 abbrev pub enginesFull : Progress → Bool
-enginesFull p = eqb (length (p .tested)) 40
+enginesFull p = leb 40 (length (p .tested))
 
--- an engine number from 1 to 65,535 that is not in the year yet
-abbrev pub numberFree : Progress → ℕ → Bool
-numberFree p number = within 1 65535 number && not (isTested number (p .tested))
+-- an engine number is from 1 to 65,535
+abbrev pub numberInRange : ℕ → Bool
+numberInRange = within 1 65535
 
 abbrev pub resultsInRange : Pair → Bool
 resultsInRange results = both (λ q. resultInRange (of q results))
 
--- the next period: not in the last one, nor while the current one is short
+-- the current period is the last
 abbrev pub lastPeriod : Progress → Bool
-lastPeriod p = eqb (p .period) (periods (p .setup .volume) (p .setup .days))
+lastPeriod p = leb (periods (p .setup .volume) (p .setup .days)) (p .period)
 
 -- what an event asks for by its kind
 abbrev pub fits : Progress → Event → Bool
-fits p (Engine number readings results) = numberFree p number && countInRange readings && resultsInRange results && not (enginesFull p)
+fits p (Engine number readings results) = numberInRange number && not (isTested number (p .tested)) && countInRange readings && resultsInRange results && not (enginesFull p)
 fits p (Amendment standards) = standardsInRange standards
 fits p NextPeriod = not (lastPeriod p || short p)
 fits p Declaration = true

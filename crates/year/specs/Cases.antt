@@ -4,7 +4,7 @@
 use mathlib.Core.Path.{_≡_}
 use mathlib.Core.Bool.{true, false}
 use mathlib.Core.List.{List, [], _∷_}
-use Prim.Native.Nat.{ℕ, _*_}
+use Prim.Native.Nat.{ℕ, zero, suc, _*_}
 use Rattle.rounding.specs.Cases.{noFactor}
 use Rattle.cumsum.specs.declared.Mark.the-variants.{Unmarked, Over, Under}
 use Rattle.year.specs.declared.Pair.{Pair}
@@ -14,7 +14,7 @@ use Rattle.year.specs.declared.Event.the-variants.{Engine, Amendment, Ne
 use Rattle.year.specs.Setup.{Hcnox}
 use Rattle.year.specs.Replay.{Progress, replay, history}
 use Rattle.year.specs.Verdict.{verdict, onePercent}
-use Rattle.year.specs.Admissible.{valid}
+use Rattle.year.specs.Admissible.{enginesFull, valid}
 use Rattle.year.specs.Status.{blank, status, printedMarks}
 
 abbrev pub pair : ℕ → ℕ → Pair
@@ -28,6 +28,11 @@ setupOf volume standard =
 -- an engine of one reading each, with CO 5,000
 abbrev pub engine : ℕ → ℕ → Event
 engine number result = Engine number 1 (pair result 5000)
+
+-- engines 1 to n, each with result 800
+abbrev pub enginesTo : ℕ → List Event
+enginesTo zero = []
+enginesTo (suc n) = engine (suc n) 800 ∷ enginesTo n
 
 -- T 800, X 998 then 1,071, P 5,000
 abbrev pub two : Progress
@@ -68,6 +73,9 @@ pub record Cases : Type 0 where
       ≡ record { result = 900; standard = 700 } ∷ record { result = 998; standard = 800 } ∷ []
   -- with one engine only n, S and the verdict are shown
   pub statusOfOne : status 1024 (replay (setupOf 5000 800) (engine 1 998 ∷ [])) ≡ record { n = 1; verdict = 0; hcnox = blank 998; co = blank 5000 }
+  -- forty engines are full, thirty-nine are not
+  pub fortyFull : enginesFull (replay (setupOf 5000 800) (enginesTo 40)) ≡ true
+  pub thirtyNineNotFull : enginesFull (replay (setupOf 5000 800) (enginesTo 39)) ≡ false
   -- n counts engines, not events
   pub nAmended : status 1024 (replay (setupOf 5000 800) (Amendment (pair 700 6100) ∷ engine 1 998 ∷ [])) .n ≡ 1
   -- nothing follows a failure, no number comes twice, and no period follows a short one

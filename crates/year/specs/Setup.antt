@@ -23,7 +23,7 @@ abbrev pub factorOf : Pollutant → Setup → Factor
 factorOf Hcnox setup = setup .factors .hcnox
 factorOf Co setup = setup .factors .co
 
--- a test of both pollutants, and of one of them
+-- a test of both pollutants, and of at least one of them
 abbrev pub both : (Pollutant → Bool) → Bool
 both test = test Hcnox && test Co
 
@@ -38,11 +38,11 @@ abbrev pub standardsInRange : Pair → Bool
 standardsInRange standards = both (λ q. standardInRange (of q standards))
 
 -- "Projected volume P is 1 to 99,999,999, production days D 1 to 366." (document 01, "Periods")
-abbrev pub volumeInRange : Setup → Bool
-volumeInRange setup = within 1 99999999 (setup .volume) && within 1 366 (setup .days)
+abbrev pub productionInRange : Setup → Bool
+productionInRange setup = within 1 99999999 (setup .volume) && within 1 366 (setup .days)
 
 abbrev pub factorsInRange : Setup → Bool
 factorsInRange setup = both (λ q. factorInRange (factorOf q setup))
 
 abbrev pub setupInRange : Setup → Bool
-setupInRange setup = volumeInRange setup && standardsInRange (setup .standards) && factorsInRange setup
+setupInRange setup = productionInRange setup && standardsInRange (setup .standards) && factorsInRange setup

@@ -40,10 +40,10 @@ pub record StarredCases : Type 0 where
   pub marksOfThree : reverse (marks 1024 (history Hcnox (replay (setupOf 5000 100) three .tested))) ≡ Unmarked ∷ Over ∷ Over ∷ []
   pub threeFailed : verdict 1024 (replay (setupOf 5000 100) three) ≡ 6
   -- * T 1,000, X 800 twice, CO 5,000 twice under 6,100, P 1,500: N is 1, verdict 2
-  pub sizeOfEight : status 1024 (twice 800) .hcnox .size ≡ Tenths 10
-  pub sizeOfEightCo : status 1024 (twice 800) .co .size ≡ Tenths 10
-  pub verdictOfEight : verdict 1024 (twice 800) ≡ 2
+  pub sizeOf800 : status 1024 (twice 800) .hcnox .size ≡ Tenths 10
+  pub sizeOf800Co : status 1024 (twice 800) .co .size ≡ Tenths 10
+  pub verdictOf800 : verdict 1024 (twice 800) ≡ 2
   -- * With X 1,000 twice: no N, 'U', verdict 1
-  pub sizeOfTen : status 1024 (twice 1000) .hcnox .size ≡ Absent
-  pub markOfTen : status 1024 (twice 1000) .hcnox .mark ≡ Under
-  pub verdictOfTen : verdict 1024 (twice 1000) ≡ 1
+  pub sizeOf1000 : status 1024 (twice 1000) .hcnox .size ≡ Absent
+  pub markOf1000 : status 1024 (twice 1000) .hcnox .mark ≡ Under
+  pub verdictOf1000 : verdict 1024 (twice 1000) ≡ 1
