@@ -6,7 +6,9 @@ use mathlib.Core.Bool.{Bool, true, false, cond}
 use mathlib.Core.List.{List, [], _∷_}
 use Prim.Native.Nat.{ℕ, _<_}
 use native.Mathlib.Omega.{arith}
-use Rattle.buffers.specs.Rows.{Row, first, FirstApplies, NoneApplies, Numbered}
+use lib.Dec.{eqb}
+use Rattle.buffers.specs.Rows.{Row, first, applies, FirstApplies, NoneApplies, Numbered}
+use Rattle.buffers.proofs.Tests.{by-test}
 
 -- what a row that applies gives, and one that does not
 taken : (t : Bool) (x y : ℕ) → t ≡ true → cond t x y ≡ x
@@ -23,6 +25,11 @@ first-is (row ∷ rows) r d (inr h) = rw (passed (row .0) (row .1) (first rows d
 pub none-is : (rows : List Row) (d : ℕ) → NoneApplies rows → first rows d ≡ d
 none-is [] d h = refl
 none-is (row ∷ rows) d h = rw (passed (row .0) (row .1) (first rows d) (h .0)) (none-is rows d (h .1))
+
+-- where no row applies, the row of any number does not
+pub none-applies : (rows : List Row) (r : ℕ) → NoneApplies rows → applies rows r ≡ false
+none-applies [] r h = refl
+none-applies (row ∷ rows) r h = by-test (λ t. t ≡ false) (eqb (row .1) r) (row .0) (applies rows r) (λ _. h .0) (λ _. none-applies rows r (h .1))
 
 -- a number above 0 is that of the first row that applies
 first-step : (t : Bool) (x y r : ℕ) {P : Type 0} → (y ≡ r → P) → cond t x y ≡ r → ((t ≡ true) × (x ≡ r)) ⊎ ((t ≡ false) × P)
