@@ -101,9 +101,9 @@ pub record Cases : Type 0 where
   pub modelOfNone : modelOf (Enter Declare ∷ engineOne ∷ []) ≡ NoSetup
   pub modelOfOne : modelOf (engineOne ∷ engineOne ∷ newYear ∷ engineOne ∷ []) ≡ yearOf (engine 1 998 ∷ [])
   pub modelOfTwo : modelOf (Enter (Amend (pair 700 6100)) ∷ engineOne ∷ newYear ∷ []) ≡ yearOf (Amendment (pair 700 6100) ∷ engine 1 998 ∷ [])
+  pub modelAnew : modelOf (newYear ∷ Enter Declare ∷ engineOne ∷ newYear ∷ []) ≡ yearOf []
   -- an accepted setup in a list, and only a refused one
   pub acceptedInList : setupAccepted (Enter Declare ∷ newYear ∷ []) ≡ true
   pub refusedInList : setupAccepted (SetUp (setupWith 0 (pair 800 6100) noFactor) ∷ []) ≡ false
   -- the journal after the same lists
   pub journalOfOne : journalOf (engineOne ∷ engineOne ∷ newYear ∷ engineOne ∷ []) ≡ encode (setupOf 5000 800) (engine 1 998 ∷ [])
-  pub modelAnew : modelOf (newYear ∷ Enter Declare ∷ engineOne ∷ newYear ∷ []) ≡ yearOf []

@@ -12,12 +12,14 @@ use Rattle.rounding.specs.Result.{nearestEven}
 use Rattle.statistics.specs.Spread.{variation, deviation}
 use Rattle.statistics.specs.SampleSize.{t95, sampleSize, sizeReached, roundedUp}
 use Rattle.statistics.specs.Cases.{exactly}
+use Rattle.statistics.proofs.Cases as statistics
 use Rattle.statistics.proofs.Deviations.{deviation-unique, deviation-none}
 use Rattle.statistics.specs.declared.SampleSize.{SampleSize}
 use Rattle.statistics.specs.declared.SampleSize.the-variants.{Tenths, Absent}
 use Rattle.cumsum.specs.declared.Mark.{Mark}
 use Rattle.cumsum.specs.declared.Mark.the-variants.{Unmarked, Under, Undecided}
 use Rattle.cumsum.specs.Marks.{compared, failed, undecided}
+use Rattle.year.specs.declared.Setup.{Setup}
 use Rattle.year.specs.declared.Event.{Event}
 use Rattle.year.specs.declared.Event.the-variants.{Declaration}
 use Rattle.year.specs.Periods.{periods, needs}
@@ -38,6 +40,10 @@ use Rattle.commands.specs.Cases.{marked}
 use Rattle.commands.specs.Run.{printed, run}
 use Rattle.commands.proofs.Steps.{Does, Stored, entry-does, refused-does, marks-does, end, then, runs-replies}
 
+-- the setup of the run
+abbrev plant : Setup
+plant = setupOf 5000 800
+
 -- the events of the run, after one, two and three engines and after the declaration
 abbrev one : List Event
 one = engine 1 998 ∷ []
@@ -53,48 +59,45 @@ declared = Declaration ∷ three
 
 -- the journal with them
 abbrev holding : List Event → List ℕ
-holding es = encode (setupOf 5000 800) es
+holding es = encode plant es
 
 -- an engine of one reading for each pollutant
 abbrev entering : ℕ → ℕ → ℕ → Entry
 entering number hcnox co = EnterEngine number (record { hcnox = hcnox ∷ []; co = co ∷ [] })
 
--- the deviations of 998, 1,071 and of 998, 1,071, 900
-of-2 : deviation 1024 2 5329 ≡ exactly 52857 1
-of-2 = deviation-unique 1024 2 5329 (lit≤ tt) 52857 (lit≤ tt) (lit< tt)
-
+-- the deviation of 998, 1,071, 900; that of the first two is among the cases of `statistics`
 of-3 : deviation 1024 3 44174 ≡ exactly 87863 1
 of-3 = deviation-unique 1024 3 44174 (lit≤ tt) 87863 (lit≤ tt) (lit< tt)
 
 -- the events could have been entered
-valid-declared : valid (setupOf 5000 800) declared ≡ true
+valid-declared : valid plant declared ≡ true
 unfolding nearestEven variation t95 sizeReached compared failed undecided periods needs verdict closed admissible
-valid-declared = simp (of-2, of-3, deviation-none)
+valid-declared = simp (statistics.cases .deviationAt1024, of-3, deviation-none)
 
-valid-three : valid (setupOf 5000 800) three ≡ true
-valid-three = valid-before (setupOf 5000 800) Declaration three valid-declared
+valid-three : valid plant three ≡ true
+valid-three = valid-before plant Declaration three valid-declared
 
-valid-two : valid (setupOf 5000 800) two ≡ true
-valid-two = valid-before (setupOf 5000 800) (engine 3 900) two valid-three
+valid-two : valid plant two ≡ true
+valid-two = valid-before plant (engine 3 900) two valid-three
 
 -- and so each journal is read as its year
-stored : (es : List Event) → length (holding es) ≡ 544 → readJournal (holding es) ≡ readAs (holding es) (setupOf 5000 800) es → valid (setupOf 5000 800) es ≡ true
-    → Stored (holding es) (setupOf 5000 800) es
-stored es size same v = record { size = size; isYear = same ∙ read-as (setupOf 5000 800) es v }
+stored : (es : List Event) → length (holding es) ≡ 544 → readJournal (holding es) ≡ readAs (holding es) plant es → valid plant es ≡ true
+    → Stored (holding es) plant es
+stored es size same v = record { size = size; isYear = same ∙ read-as plant es v }
 
-stored-none : Stored (holding []) (setupOf 5000 800) []
+stored-none : Stored (holding []) plant []
 stored-none = stored [] refl refl refl
 
-stored-one : Stored (holding one) (setupOf 5000 800) one
-stored-one = stored one refl refl (valid-before (setupOf 5000 800) (engine 2 1071) one valid-two)
+stored-one : Stored (holding one) plant one
+stored-one = stored one refl refl (valid-before plant (engine 2 1071) one valid-two)
 
-stored-two : Stored (holding two) (setupOf 5000 800) two
+stored-two : Stored (holding two) plant two
 stored-two = stored two refl refl valid-two
 
-stored-three : Stored (holding three) (setupOf 5000 800) three
+stored-three : Stored (holding three) plant three
 stored-three = stored three refl refl valid-three
 
-stored-declared : Stored (holding declared) (setupOf 5000 800) declared
+stored-declared : Stored (holding declared) plant declared
 stored-declared = stored declared refl refl valid-declared
 
 -- the reply that shows n, a verdict, marks and sample sizes
@@ -116,15 +119,15 @@ unfolding put nearestEven variation t95 sampleSize roundedUp sizeReached compare
 lines =
     record {
       line1 = unfold readAs journalAfter answer replyTo journalAfterLine in record { replied = refl; left = refl };
-      line2 = entry-does (holding []) (text "E 1 998000 5000000") (setupOf 5000 800) [] stored-none (entering 1 998000 5000000) (holding one) refl refl refl stored-one;
-      line3 = simp (of-2, deviation-none) at (entry-does (holding one) (text "E 2 1071000 5000000") (setupOf 5000 800) one stored-one
+      line2 = entry-does (holding []) (text "E 1 998000 5000000") plant [] stored-none (entering 1 998000 5000000) (holding one) refl refl refl stored-one;
+      line3 = simp (statistics.cases .deviationAt1024, deviation-none) at (entry-does (holding one) (text "E 2 1071000 5000000") plant one stored-one
           (entering 2 1071000 5000000) (holding two) refl refl refl stored-two);
-      line4 = simp (of-2, of-3, deviation-none) at (entry-does (holding two) (text "E 3 900000 5000000") (setupOf 5000 800) two stored-two
-          (entering 3 900000 5000000) (holding three) refl (simp (of-2, deviation-none)) refl stored-three);
-      line5 = simp (of-2, of-3, deviation-none) at (marks-does (holding three) (text "L") (setupOf 5000 800) three stored-three 80 refl refl);
-      line6 = simp (of-2, of-3, deviation-none) at (entry-does (holding three) (text "X") (setupOf 5000 800) three stored-three
-          Declare (holding declared) refl (simp (of-2, of-3, deviation-none)) refl stored-declared);
-      line7 = refused-does (holding declared) (text "E 4 1 1") (setupOf 5000 800) declared stored-declared (entering 4 1 1) 8 refl refl (lit< tt);
+      line4 = simp (statistics.cases .deviationAt1024, of-3, deviation-none) at (entry-does (holding two) (text "E 3 900000 5000000") plant two stored-two
+          (entering 3 900000 5000000) (holding three) refl (simp (statistics.cases .deviationAt1024, deviation-none)) refl stored-three);
+      line5 = simp (statistics.cases .deviationAt1024, of-3, deviation-none) at (marks-does (holding three) (text "L") plant three stored-three 80 refl refl);
+      line6 = simp (statistics.cases .deviationAt1024, of-3, deviation-none) at (entry-does (holding three) (text "X") plant three stored-three
+          Declare (holding declared) refl (simp (statistics.cases .deviationAt1024, of-3, deviation-none)) refl stored-declared);
+      line7 = refused-does (holding declared) (text "E 4 1 1") plant declared stored-declared (entering 4 1 1) 8 refl refl (lit< tt);
     }
 
 pub document-run : run (text "S 5000 365 800 6100 0 0 0 0\nE 1 998000 5000000\nE 2 1071000 5000000\nE 3 900000 5000000\nL\nX\nE 4 1 1\n")

@@ -58,7 +58,8 @@ abbrev pub callReply : Call → List ℕ → List ℕ
 callReply (SetUp s) journal = answerReply (answer (SetUp s) journal)
 callReply (Enter entry) journal = answerReply (answer (Enter entry) journal)
 callReply ReadStatus journal = answerReply (answer ReadStatus journal)
-callReply (WriteMarks size) journal = ifAccepted (WriteMarks size) journal (marksReply (markBytes (readJournal journal))) (refusalReply (refusalOn (WriteMarks size) journal))
+callReply (WriteMarks size) journal =
+    ifAccepted (WriteMarks size) journal (marksReply (markBytes (readJournal journal))) (refusalReply (refusalOn (WriteMarks size) journal))
 
 abbrev pub commandReply : Command → List ℕ → List ℕ
 commandReply (Make call) journal = callReply call journal

@@ -5,30 +5,22 @@ use mathlib.Core.List.{[], _∷_}
 use lib.Dec.{lit<, lit≤}
 use Rattle.statistics.specs.Spread.{variation, deviationOf}
 use Rattle.statistics.specs.Cases.{under, exactly}
-use Rattle.statistics.proofs.Deviations.{deviation-unique}
+use Rattle.statistics.proofs.Deviations.{deviation-none}
 use Rattle.statistics.proofs.Cases as statistics
 use Rattle.cumsum.specs.Marks.{compared, failed, undecided}
 use Rattle.cumsum.specs.Cases.{Cases}
 
-over-1024 : deviationOf 1024 (under 100 (500 ∷ 500 ∷ [])) ≡ exactly 0 0
-unfolding variation
-over-1024 = deviation-unique 1024 2 0 (lit≤ tt) 0 (lit≤ tt) (lit< tt)
-
-equal-1024 : deviationOf 1024 (under 1000 (1000 ∷ 1000 ∷ [])) ≡ exactly 0 0
-unfolding variation
-equal-1024 = deviation-unique 1024 2 0 (lit≤ tt) 0 (lit≤ tt) (lit< tt)
-
 pub cases : Cases
-unfolding compared failed undecided
+unfolding variation compared failed undecided
 cases =
     record {
       cumsumOfTwo = rw (statistics.cases .deviationAt1024);
       limitOfTwo = rw (statistics.cases .deviationAt1024);
       marksOfTwo = rw (statistics.cases .deviationAt1024);
       finerMarksOfTwo = rw (statistics.cases .deviationAt8192);
-      overTwice = rw (over-1024, statistics.cases .deviationOfEqual);
+      overTwice = simp deviation-none;
       failsAtTwo = refl;
-      equalIsUnder = rw equal-1024;
+      equalIsUnder = simp deviation-none;
       onceIsNoFailure = refl;
       overAndOpen = refl;
       openTwice = refl;

@@ -75,6 +75,7 @@ cases =
       verdictAtOnePercent = simp deviation-none;
       verdictOfNewPeriod = simp deviation-none;
       verdictAmended = simp deviation-none;
+      sizeAmended = refl;
       testsAmended = refl;
       statusOfOne = refl;
       fortyFull = refl;

@@ -41,7 +41,8 @@ lastPeriod p = leb (periods (p .setup .volume) (p .setup .days)) (p .period)
 
 -- what an event asks for by its kind
 abbrev pub fits : Progress → Event → Bool
-fits p (Engine number readings results) = numberInRange number && not (isTested number (p .tested)) && countInRange readings && resultsInRange results && not (enginesFull p)
+fits p (Engine number readings results) =
+    numberInRange number && not (isTested number (p .tested)) && countInRange readings && resultsInRange results && not (enginesFull p)
 fits p (Amendment standards) = standardsInRange standards
 fits p NextPeriod = not (lastPeriod p || short p)
 fits p Declaration = true

@@ -6,6 +6,7 @@ use mathlib.Core.Bool.{true, false}
 use mathlib.Core.List.{List, [], _∷_}
 use Prim.Native.Nat.{ℕ, zero, suc, _*_}
 use Rattle.rounding.specs.Cases.{noFactor}
+use Rattle.statistics.specs.declared.SampleSize.the-variants.{Tenths}
 use Rattle.cumsum.specs.declared.Mark.the-variants.{Unmarked, Over, Under}
 use Rattle.year.specs.declared.Pair.{Pair}
 use Rattle.year.specs.declared.Setup.{Setup}
@@ -68,6 +69,7 @@ pub record Cases : Type 0 where
   pub verdictOfNewPeriod : verdict 1024 (replay (setupOf 5000 1000) (NextPeriod ∷ engine 2 1000 ∷ engine 1 1000 ∷ [])) ≡ 0
   -- an amendment to 10 leaves two engines under 1,000 where they were: verdict 2 stays, and N stays 1
   pub verdictAmended : verdict 1024 (replay (setupOf 1500 1000) (Amendment (pair 10 10) ∷ engine 2 800 ∷ engine 1 800 ∷ [])) ≡ 2
+  pub sizeAmended : status 1024 (replay (setupOf 1500 1000) (Amendment (pair 10 10) ∷ engine 2 800 ∷ engine 1 800 ∷ [])) .hcnox .size ≡ Tenths 10
   -- and it is T for the engine after it
   pub testsAmended : history Hcnox (replay (setupOf 5000 800) (engine 2 900 ∷ Amendment (pair 700 6100) ∷ engine 1 998 ∷ []) .tested)
       ≡ record { result = 900; standard = 700 } ∷ record { result = 998; standard = 800 } ∷ []
