@@ -1,2 +1,11 @@
 // Shared by every crate: ranges, tables of which the first row that applies is taken, bytes of a lent buffer, text as bytes.
-// The definitions are in specs/; no type is declared here.
+// No type is declared here.
+ghost use mathlib.Core.Path.{_≡_};
+ghost use Rattle.buffers.specs.Numbers.{within};
+
+// x is from low to high, both included.
+pub fn within(low: u32, high: u32, x: u32) -> bool
+    ensures { λ r. ⌜ r ≡ within low high x ⌝ }
+{
+    low <= x && x <= high
+}

@@ -4,6 +4,7 @@ ghost use mathlib.Core.List.{map};
 ghost use Prim.Native.Nat.{_^_, _≤_, _<_};
 ghost use lib.ListN.{length};
 ghost use Rattle.rounding.specs.Result.{nearestEven, rounded, sum, factored, resultOf, countInRange, readingInRange, factorInRange, resultInRange};
+use buffers::within;
 
 // A deterioration factor of one pollutant. Kind 0 adds `value` thousandths of a result unit, kind 1 multiplies by `value` thousandths.
 // Both are as they were given: whether they are in range is asked by `factor_in_range`.
@@ -67,10 +68,10 @@ pub fn result_of(factor: Factor, readings: &[u32]) -> u64
 }
 
 // An engine has 1 to 3 readings for each pollutant.
-pub fn count_in_range(count: usize) -> bool
+pub fn count_in_range(count: u32) -> bool
     ensures { λ r. ⌜ r ≡ countInRange count ⌝ }
 {
-    1 <= count && count <= 3
+    within(1, 3, count)
 }
 
 pub fn reading_in_range(reading: u32) -> bool
@@ -87,7 +88,7 @@ pub fn factor_in_range(factor: Factor) -> bool
         return value <= 60000;
     }
     if factor.kind == 1 {
-        return 1000 <= value && value <= 60000;
+        return within(1000, 60000, value);
     }
     false
 }

@@ -1,8 +1,9 @@
--- `factor_in_range` meets its contract: kind 0, kind 1 with its low end passed or not, and any other kind. Assumes nothing.
+-- `factor_in_range` meets its contract: kind 0, kind 1, and any other kind. Assumes nothing.
 use mathlib.Core.Path.{_≡_, sym}
 use mathlib.Core.Bool.{false, or-false}
 use lib.Dec.{leb}
-use borrow.Author.Tests.{le-leb, lt-leb, ne-eqb}
+use borrow.Author.Needs.{needs}
+use borrow.Author.Tests.{ne-eqb}
 use Rattle.rounding.specs.declared.Factor.{Factor}
 use Rattle.rounding.specs.Result.{factorInRange}
 use Rattle.rounding.proofs.factor_in_range.Statement.{statement}
@@ -14,14 +15,14 @@ added f h = rw h (sym (or-false _))
 returns : tie.Need-returns
 returns c = added (c .before .before .args .factor) (c .if1 .taken)
 
+within-requires : tie.Need-within-requires
+within-requires c κs = search needs
+
 returns-2 : tie.Need-returns-2
-returns-2 c = rw (c .before .if2 .taken, le-leb _ _ (c .if3 .taken))
+returns-2 c = rw (c .before .if2 .taken) (c .within .ensures)
 
 returns-3 : tie.Need-returns-3
-returns-3 c = rw (c .before .if2 .taken, lt-leb _ _ (c .if3 .left))
-
-returns-4 : tie.Need-returns-4
-returns-4 c = rw (ne-eqb _ _ (c .before .before .if1 .left), ne-eqb _ _ (c .if2 .left))
+returns-3 c = rw (ne-eqb _ _ (c .before .before .if1 .left), ne-eqb _ _ (c .if2 .left))
 
 pub factor-in-range-spec : {M : Type 1} → statement M
-factor-in-range-spec = tie.close (tie.spec returns returns-2 returns-3 returns-4)
+factor-in-range-spec = tie.close (tie.spec returns within-requires returns-2 returns-3)
