@@ -1,4 +1,4 @@
--- V is no cut-off difference, as S² ≤ i × Q; and it is at most i² × 100,000,000 where each X is at most 20,000.
+-- V is no cut-off difference, as S² ≤ i × Q; and it is at most i² × 100,000,000 where each X is at most 20,000. The ranges of the code follow.
 -- Assumes nothing.
 use mathlib.Core.List.{List, [], _∷_}
 use Prim.Native.Nat.{ℕ, zero, suc, _+_, _*_, _≤_}
@@ -6,11 +6,7 @@ use native.Mathlib.Nat.{mul-le-mul-left, mul-le-mul-right}
 use native.Mathlib.Omega.{arith}
 use lib.ListN.{length}
 use Rattle.statistics.specs.Spread.{Test, total, squares, variation}
-
--- every X is at most a bound
-abbrev pub ResultsUpTo : ℕ → List Test → Type 0
-ResultsUpTo b [] = Unit {0}
-ResultsUpTo b (x ∷ h) = (x .result ≤ b) × ResultsUpTo b h
+use Rattle.statistics.specs.Ranges.{TestsInRange, HistoryInRange, DeviationInRange, SizeInRange}
 
 pub twice-product : (a b : ℕ) → 2 * (a * b) ≤ a * a + b * b
 twice-product zero b = omega arith
@@ -26,14 +22,24 @@ pub total-squared : (h : List Test) → total h * total h ≤ length h * squares
 total-squared [] = omega arith
 total-squared (y ∷ h) = omega (arith, total-squared h, cross-le (y .result) h)
 
-squares-le : (b : ℕ) (h : List Test) → ResultsUpTo b h → squares h ≤ b * total h
-squares-le b [] r = omega arith
-squares-le b (y ∷ h) r = omega (arith, squares-le b h (r .1), mul-le-mul-right (y .result) (r .0))
+-- S ≤ i × 20,000 and Q ≤ 20,000 × S, where each X is at most 20,000
+pub total-le : (h : List Test) → TestsInRange h → total h ≤ length h * 20000
+total-le [] r = omega arith
+total-le (y ∷ h) r = omega (arith, total-le h (r .2))
 
-variation-half : (c : ℕ) (h : List Test) → ResultsUpTo (2 * c) h → variation h ≤ c * length h * (c * length h)
+pub squares-le : (h : List Test) → TestsInRange h → squares h ≤ 20000 * total h
+squares-le [] r = omega arith
+squares-le (y ∷ h) r = omega (arith, squares-le h (r .2), mul-le-mul-right (y .result) (r .0))
+
+pub variation-le : (h : List Test) → TestsInRange h → variation h ≤ length h * length h * 100000000
 unfolding variation
-variation-half c h r =
-    omega (arith, mul-le-mul-left (length h) (squares-le (2 * c) h r), twice-product (c * length h) (total h))
+variation-le h r =
+    omega (arith, mul-le-mul-left (length h) (squares-le h r), twice-product (10000 * length h) (total h))
 
-pub variation-le : (h : List Test) → ResultsUpTo 20000 h → variation h ≤ length h * length h * 100000000
-variation-le h r = omega (arith, variation-half 10000 h r)
+-- So the ranges of the code are met by every history of up to 40 engines in range.
+module _ (h : List Test) (r : HistoryInRange 40 h) where
+  pub deviation-in-range : (k : ℕ) → k ≤ 8192 → 2 ≤ length h → DeviationInRange k (length h) (variation h)
+  deviation-in-range k fine two = record { fine = fine; two = two; few = r .few; variation = variation-le h (r .tests) }
+
+  pub size-in-range : (t : ℕ) → t ≤ 20000 → SizeInRange (length h) (total h) t (variation h)
+  size-in-range t le = record { few = r .few; total = total-le h (r .tests); standard = le; variation = variation-le h (r .tests) }

@@ -2,7 +2,7 @@
 -- Assumes nothing.
 use mathlib.Core.Path.{_≡_, sym, _∙_}
 use Prim.Native.Nat.{ℕ, _+_, _-_, _*_, _/_, _^_, _≤_, _<_}
-use native.Mathlib.Nat.{le-trans, lt-of-le-of-lt, sub-le, mul-le-mul, mul-le-mul-left, le-mul-of-pos-right, div-lt-iff-lt-mul}
+use native.Mathlib.Nat.{le-trans, lt-of-le-of-lt, lt-of-not-le, not-le-of-lt, sub-le, mul-le-mul, mul-le-mul-left, le-mul-of-pos-right, div-lt-iff-lt-mul}
 use native.Mathlib.Omega.{arith}
 use borrow.Author.Tests.{eq-eqb, ne-eqb}
 use Rattle.statistics.specs.declared.Deviation.{Deviation}
@@ -48,3 +48,7 @@ module _ (k i v : ℕ) (h : DeviationInRange k i v) where
 
     pub inexact : (s * s * (i * (i - 1)) ≡ k * k * v → ⊥) → record { floor = s; inexact = 1 } ≡ deviation k i v
     inexact t = sym (deviation-unique k i v (h .two) s passes next-fails ∙ rw (ne-eqb _ _ t))
+
+  -- s has room for a factor of 20
+  pub deviation-lt : deviation k i v .floor < 4294967296
+  deviation-lt = lt-of-not-le (λ l. not-le-of-lt (root-fits (deviation k i v .floor) (deviation-root k i v (h .two))) (mul-le-mul l l))
