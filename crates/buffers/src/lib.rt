@@ -1,6 +1,7 @@
 // Shared by every crate: ranges, tables of which the first row that applies is taken, bytes of a lent buffer, text as bytes.
 // No type is declared here.
 ghost use mathlib.Core.Path.{_≡_};
+ghost use mathlib.Core.Bool.{_&&_, _||_};
 ghost use Rattle.buffers.specs.Numbers.{within};
 
 // x is from low to high, both included.
@@ -8,4 +9,24 @@ pub fn within(low: u32, high: u32, x: u32) -> bool
     ensures { λ r. ⌜ r ≡ within low high x ⌝ }
 {
     low <= x && x <= high
+}
+
+// At least one of two tests.
+pub fn either(a: bool, b: bool) -> bool
+    ensures { λ r. ⌜ r ≡ (a || b) ⌝ }
+{
+    if a {
+        return true;
+    }
+    b
+}
+
+// Two tests both.
+pub fn both(a: bool, b: bool) -> bool
+    ensures { λ r. ⌜ r ≡ (a && b) ⌝ }
+{
+    if a {
+        return b;
+    }
+    false
 }

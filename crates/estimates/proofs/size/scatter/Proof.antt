@@ -1,0 +1,33 @@
+-- `size::scatter` meets its contract. Assumes nothing.
+use mathlib.Core.Path.{refl}
+use Prim.Native.Nat.{_*_, _≤_}
+use native.Mathlib.Omega.{arith}
+use borrow.Author.Needs.{needs}
+use Rattle.estimates.proofs.Sizes.{scatter-fits}
+use Rattle.estimates.proofs.size.scatter.Statement.{statement}
+use Rattle.estimates.proofs.size.scatter.Tie as tie
+
+t95-requires : tie.Need-t95-requires
+t95-requires c κs = search needs
+
+-- the bounds of the three products, of the coefficient that was read
+fits : (c : tie.After-t95) → (c .t95 .result * c .t95 .result ≤ 398161)
+    × (c .t95 .result * c .t95 .result * c .before .args .variation ≤ 63705760000000000)
+    × (c .t95 .result * c .t95 .result * c .before .args .variation * c .before .args .n ≤ 2548230400000000000)
+fits c = let s = c .before in rw (c .t95 .ensures) (scatter-fits (s .args .n) (s .args .variation) (s .pre .1) (s .pre .2))
+
+mul-result : tie.Need-mul-result
+mul-result c = omega (arith, fits c)
+
+mul-result-2 : tie.Need-mul-result-2
+mul-result-2 c = omega (arith, fits c)
+
+mul-result-3 : tie.Need-mul-result-3
+mul-result-3 c = omega (arith, fits c)
+
+returns : tie.Need-returns
+returns c = (rw (c .t95 .ensures), fits c .2)
+
+pub scatter-spec : {M : Type 1} → statement M
+scatter-spec =
+    tie.close (tie.spec t95-requires mul-result mul-result-2 mul-result-3 returns)
