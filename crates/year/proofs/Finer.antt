@@ -18,6 +18,7 @@ use Rattle.year.specs.Setup.{Pollutant, Hcnox, Co}
 use Rattle.year.specs.Replay.{Tested, Progress, replay, history}
 use Rattle.year.specs.Verdict.{verdict}
 use Rattle.year.specs.Status.{printedMarks}
+use Rattle.year.proofs.Replayed.{history-length}
 use Rattle.year.specs.FinerWork.{FinerWork, atEngine}
 
 -- lists that are related place by place, one after the other
@@ -61,10 +62,6 @@ module _ (m : ℕ) (pos : 1 ≤ m) where
 
       refined : (q : Pollutant) → Forall₂ Refined (at 1024 q) (at (1024 * m) q)
       refined q = marks-refined 1024 m pos (history q (p .tested))
-
-history-length : (q : Pollutant) (xs : List Tested) → length (history q xs) ≡ length xs
-history-length q [] = refl
-history-length q (x ∷ xs) = ap suc (history-length q xs)
 
 -- the year at engine n has n engines
 at-length : (n : ℕ) (q : Pollutant) (p : Progress) → n ≤ length (p .tested) → length (atEngine n q p) ≡ n

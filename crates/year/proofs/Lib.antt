@@ -3,3 +3,4 @@ pub mod Replayed
 pub mod Finer
 pub mod Valid
 pub mod Kept
+pub mod Ranges

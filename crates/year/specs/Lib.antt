@@ -4,6 +4,7 @@ pub mod Replay
 pub mod Verdict
 pub mod Admissible
 pub mod Status
+pub mod Ranges
 pub mod Model
 pub mod FinerWork
 pub mod Cases

@@ -1,0 +1,116 @@
+-- Every list of events that could have been entered keeps the ranges of a year.
+-- Assumes nothing.
+use mathlib.Core.Path.{_≡_}
+use mathlib.Core.Bool.{Bool, true, not, _&&_, _||_, and-eq-true-iff}
+use mathlib.Core.List.{List, [], _∷_}
+use Prim.Native.Nat.{ℕ, _+_, _%_, _≤_, _<_}
+use native.Mathlib.Omega.{arith}
+use lib.Dec.{leb, ltb, eqb}
+use lib.ListN.{length}
+use borrow.Author.Tests.{leb-true, leb-false, not-true}
+use Rattle.buffers.specs.Numbers.{within}
+use Rattle.buffers.proofs.Tests.{by-test, or-false}
+use Rattle.rounding.specs.Result.{countInRange, resultInRange}
+use Rattle.year.specs.declared.Pair.{Pair}
+use Rattle.year.specs.declared.Setup.{Setup}
+use Rattle.year.specs.declared.Event.{Event}
+use Rattle.year.specs.declared.Event.the-variants.{Engine, Amendment, NextPeriod, Declaration}
+use Rattle.year.specs.Setup.{Pollutant, Hcnox, Co, of, productionInRange, standardInRange, standardsInRange, factorsInRange, setupInRange}
+use Rattle.year.specs.Periods.{periods}
+use Rattle.year.specs.Replay.{Progress, start, after, replay, short, isTested}
+use Rattle.year.specs.Admissible.{closed, eventsFull, enginesFull, numberInRange, resultsInRange, lastPeriod, fits, admissible, valid}
+use Rattle.year.specs.Ranges.{InRange}
+use Rattle.year.proofs.Valid.{valid-before, valid-newest}
+use Rattle.year.proofs.Replayed.{history-length}
+
+-- the parts of a conjunction
+left : (a b : Bool) → (a && b) ≡ true → a ≡ true
+left a b h = and-eq-true-iff a b .0 h .0
+
+right : (a b : Bool) → (a && b) ≡ true → b ≡ true
+right a b h = and-eq-true-iff a b .0 h .1
+
+-- a test of both pollutants is one of each
+pub both-of : (test : Pollutant → Bool) → (test Hcnox && test Co) ≡ true → (q : Pollutant) → test q ≡ true
+both-of test h Hcnox = left (test Hcnox) (test Co) h
+both-of test h Co = right (test Hcnox) (test Co) h
+
+pub standard-le : (t : Pair) → standardsInRange t ≡ true → (q : Pollutant) → of q t ≤ 20000
+standard-le t h q =
+    let x = of q t in
+    leb-true x 20000 (right (leb 10 x) (leb x 20000) (left (within 10 20000 x) (eqb (x % 10) 0) (both-of (λ q. standardInRange (of q t)) h q)))
+
+pub periods-le : (p d : ℕ) → periods p d ≤ 4
+unfolding periods
+periods-le p d =
+    by-test (λ n. n ≤ 4) (ltb p 1600) _ _ (λ _. omega arith) (λ _. by-test (λ n. n ≤ 4) (leb d 120) _ _ (λ _. omega arith)
+    (λ _. by-test (λ n. n ≤ 4) (leb d 210) _ _ (λ _. omega arith) (λ _. by-test (λ n. n ≤ 4) (leb d 300) 3 4 (λ _. omega arith) (λ _. omega arith))))
+
+start-in-range : (s : Setup) → setupInRange s ≡ true → InRange (start s)
+start-in-range s h =
+    record {
+      setup = h;
+      standards = right (productionInRange s) (standardsInRange (s .standards)) (left (productionInRange s && standardsInRange (s .standards)) (factorsInRange s) h);
+      period = omega arith;
+      events = omega arith;
+      histories = λ q. record { few = omega arith; tests = tt };
+    }
+
+-- what an admissible event leaves room for
+module _ (p : Progress) (e : Event) (h : admissible p e ≡ true) where
+  pub not-full : p .stored < 64
+  unfolding admissible
+  not-full =
+      leb-false 64 (p .stored) (not-true (eventsFull p) (right (not (closed p)) (not (eventsFull p)) (left (not (closed p) && not (eventsFull p)) (fits p e) h)))
+
+  pub fitting : fits p e ≡ true
+  unfolding admissible
+  fitting = right (not (closed p) && not (eventsFull p)) (fits p e) h
+
+module _ (p : Progress) (number readings : ℕ) (results : Pair) (h : admissible p (Engine number readings results) ≡ true) where
+  named : Bool
+  named = numberInRange number && not (isTested number (p .tested)) && countInRange readings
+
+  pub engine-room : length (p .tested) < 40
+  unfolding named
+  engine-room =
+      leb-false 40 _ (not-true (enginesFull p) (right (named && resultsInRange results) (not (enginesFull p)) (fitting p (Engine number readings results) h)))
+
+  pub engine-results : (q : Pollutant) → resultInRange (of q results) ≡ true
+  unfolding named
+  engine-results =
+      both-of (λ q. resultInRange (of q results))
+      (right named (resultsInRange results) (left (named && resultsInRange results) (not (enginesFull p)) (fitting p (Engine number readings results) h)))
+
+pub period-room : (p : Progress) → admissible p NextPeriod ≡ true → p .period < periods (p .setup .volume) (p .setup .days)
+period-room p h = leb-false _ (p .period) (or-false (lastPeriod p) (short p) (not-true (lastPeriod p || short p) (fitting p NextPeriod h)) .0)
+
+pub after-in-range : (e : Event) (p : Progress) → InRange p → admissible p e ≡ true → InRange (after e p)
+after-in-range (Engine number readings results) p r h =
+    record {
+      setup = r .setup;
+      standards = r .standards;
+      period = r .period;
+      events = omega (arith, not-full p (Engine number readings results) h);
+      histories = λ q.
+          record {
+            few = omega (arith, engine-room p number readings results h, history-length q (p .tested));
+            tests = (leb-true _ _ (engine-results p number readings results h q), standard-le (p .standards) (r .standards) q, r .histories q .tests);
+          };
+    }
+after-in-range (Amendment standards) p r h =
+    record { setup = r .setup; standards = fitting p (Amendment standards) h; period = r .period; events = omega (arith, not-full p (Amendment standards) h); histories = r .histories }
+after-in-range NextPeriod p r h =
+    record {
+      setup = r .setup;
+      standards = r .standards;
+      period = omega (arith, period-room p h, periods-le (p .setup .volume) (p .setup .days));
+      events = omega (arith, not-full p NextPeriod h);
+      histories = r .histories;
+    }
+after-in-range Declaration p r h =
+    record { setup = r .setup; standards = r .standards; period = r .period; events = omega (arith, not-full p Declaration h); histories = r .histories }
+
+pub valid-in-range : (s : Setup) (es : List Event) → valid s es ≡ true → InRange (replay s es)
+valid-in-range s [] h = start-in-range s h
+valid-in-range s (e ∷ es) h = after-in-range e (replay s es) (valid-in-range s es (valid-before s e es h)) (valid-newest s e es h)

@@ -1,0 +1,15 @@
+-- The ranges of a year, which every list of events that could have been entered keeps (`valid-in-range` in proofs/Ranges.antt). The code works in them.
+-- Assumes nothing.
+use mathlib.Core.Path.{_≡_}
+use mathlib.Core.Bool.{true}
+use Prim.Native.Nat.{_≤_}
+use Rattle.statistics.specs.Ranges.{HistoryInRange}
+use Rattle.year.specs.Setup.{Pollutant, standardsInRange, setupInRange}
+use Rattle.year.specs.Replay.{Progress, history}
+
+pub record InRange (p : Progress) : Type 0 where
+  pub setup : setupInRange (p .setup) ≡ true
+  pub standards : standardsInRange (p .standards) ≡ true
+  pub period : p .period ≤ 4
+  pub events : p .stored ≤ 64
+  pub histories : (q : Pollutant) → HistoryInRange 40 (history q (p .tested))
