@@ -1,0 +1,21 @@
+// Whether an engine's number is among the tested.
+ghost use mathlib.Core.Path.{_≡_};
+ghost use Prim.Native.Nat.{_≤_};
+ghost use Rattle.year.specs.Replay.{isTested};
+ghost use Rattle.engines.specs.Engines.{tested};
+use crate::Engines;
+
+pub fn is_tested(e: Engines, number: u32) -> bool
+    requires { ⌜ e .count ≤ 40 ⌝ }
+    ensures { λ r. ⌜ r ≡ isTested number (tested e) ⌝ }
+{
+    let numbers = e.numbers;
+    let mut i = e.count;
+    while 0 < i {
+        i -= 1;
+        if numbers[i] == number {
+            return true;
+        }
+    }
+    false
+}
