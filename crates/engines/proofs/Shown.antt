@@ -1,4 +1,4 @@
--- The figures of a status from the running figures: before engine 2, and from it on.
+-- The figures of a status from the running figures: before engine 2, and from it on; and the stop test.
 -- Assumes nothing.
 use mathlib.Core.Path.{_≡_, ap}
 use mathlib.Core.List.{List, [], _∷_}
@@ -7,7 +7,7 @@ use native.Mathlib.Nat.{add-zero}
 use native.Mathlib.Omega.{arith}
 use Rattle.statistics.specs.declared.SampleSize.{SampleSize}
 use Rattle.statistics.specs.Spread.{Test}
-use Rattle.statistics.specs.SampleSize.{sampleSize}
+use Rattle.statistics.specs.SampleSize.{sampleSize, sizeReached, sizeReachedOf}
 use Rattle.year.specs.declared.Figures.{Figures}
 use Rattle.year.specs.Status.{blank, figures}
 use Rattle.figures.specs.declared.Running.{Running}
@@ -34,3 +34,8 @@ module _ (k : ℕ) (f : Running) where
   later-figures [] size e two s = absurd (omega (arith, ap (λ (g : Running). g .sums .n) e))
   later-figures (x ∷ []) size e two s = absurd (omega (arith, ap (λ (g : Running). g .sums .n) e))
   later-figures (x ∷ y ∷ h) size e two s = rw (s, e)
+
+  pub size-reached : (h : List Test) → f ≡ running k h → sizeReached (f .sums .n) (f .sums .total) (f .standard) (f .sums .variation) ≡ sizeReachedOf h
+  unfolding running sizeReached
+  size-reached [] e = rw e
+  size-reached (x ∷ h) e = rw e

@@ -1,4 +1,4 @@
--- The running figures of one pollutant: before engine 2, with one engine more, and the room that one engine more needs.
+-- The running figures of one pollutant: before engine 2, with one engine more, the room that one engine more needs, and that of a sample size.
 -- Assumes nothing.
 use mathlib.Core.Path.{_≡_, refl, ap}
 use mathlib.Core.Bool.{Bool, false, _||_}
@@ -12,9 +12,9 @@ use Rattle.statistics.specs.declared.Deviation.{Deviation}
 use Rattle.statistics.specs.Spread.{Test, variation, deviation}
 use Rattle.estimates.specs.Sums.{sums}
 use Rattle.statistics.specs.Ranges.{TestsInRange, HistoryInRange}
-use Rattle.estimates.specs.Ranges.{SumsInRange, DeviationInRange}
+use Rattle.estimates.specs.Ranges.{SumsInRange, DeviationInRange, SizeInRange}
 use Rattle.statistics.proofs.Deviations.{deviation-early, inexact-le}
-use Rattle.estimates.proofs.Bounds.{deviation-in-range}
+use Rattle.estimates.proofs.Bounds.{deviation-in-range, size-in-range}
 use Rattle.estimates.proofs.Room.{deviation-lt}
 use Rattle.cumsum.specs.declared.Interval.{Interval}
 use Rattle.cumsum.specs.declared.Mark.{Mark}
@@ -105,3 +105,13 @@ module _ (k : ℕ) (f : Running) (x : ℕ) (r : RunningInRange k f x) where
             record { before = omega arith; fine = r .fine; off = omega (arith, limit-fits) },
             record { before = omega arith; fine = r .fine; off = omega (arith, limit-fits) },
           )
+
+-- the ranges of a sample size are met by the figures of every history in range
+newest-le : (h : List Test) → TestsInRange h → newestStandard h ≤ 20000
+newest-le [] r = omega arith
+newest-le (x ∷ h) r = r .1
+
+pub running-size : (k : ℕ) (f : Running) (h : List Test) → f ≡ running k h → HistoryInRange 40 h
+    → SizeInRange (f .sums .n) (f .sums .total) (f .standard) (f .sums .variation)
+unfolding running
+running-size k f h e r = rw e (size-in-range h r (newestStandard h) (newest-le h (r .tests)))

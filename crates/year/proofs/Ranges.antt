@@ -1,13 +1,14 @@
 -- Every list of events that could have been entered keeps the ranges of a year.
 -- Assumes nothing.
-use mathlib.Core.Path.{_≡_}
+use mathlib.Core.Path.{_≡_, refl}
 use mathlib.Core.Bool.{Bool, true, not, _&&_, _||_, and-eq-true-iff}
 use mathlib.Core.List.{List, [], _∷_}
 use Prim.Native.Nat.{ℕ, _+_, _%_, _≤_, _<_}
+use native.Mathlib.Nat.{le-refl}
 use native.Mathlib.Omega.{arith}
 use lib.Dec.{leb, ltb, eqb}
 use lib.ListN.{length}
-use borrow.Author.Tests.{leb-true, leb-false, not-true}
+use borrow.Author.Tests.{leb-true, leb-false, not-true, ne-eqb}
 use Rattle.buffers.specs.Numbers.{within}
 use Rattle.buffers.proofs.Tests.{by-test, or-false}
 use Rattle.rounding.specs.Result.{countInRange, resultInRange}
@@ -17,9 +18,9 @@ use Rattle.year.specs.declared.Event.{Event}
 use Rattle.year.specs.declared.Event.the-variants.{Engine, Amendment, NextPeriod, Declaration}
 use Rattle.year.specs.Setup.{Pollutant, Hcnox, Co, of, productionInRange, standardInRange, standardsInRange, factorsInRange, setupInRange}
 use Rattle.year.specs.Periods.{periods}
-use Rattle.year.specs.Replay.{Progress, start, after, replay, short, isTested}
+use Rattle.year.specs.Replay.{Tested, Progress, start, after, replay, testedIn, short, isTested}
 use Rattle.year.specs.Admissible.{closed, eventsFull, enginesFull, numberInRange, resultsInRange, lastPeriod, fits, admissible, valid}
-use Rattle.year.specs.Ranges.{InRange}
+use Rattle.year.specs.Ranges.{PeriodsUpTo, InRange}
 use Rattle.year.proofs.Valid.{valid-before, valid-newest}
 use Rattle.year.proofs.Replayed.{history-length}
 
@@ -46,12 +47,22 @@ periods-le p d =
     by-test (λ n. n ≤ 4) (ltb p 1600) _ _ (λ _. omega arith) (λ _. by-test (λ n. n ≤ 4) (leb d 120) _ _ (λ _. omega arith)
     (λ _. by-test (λ n. n ≤ 4) (leb d 210) _ _ (λ _. omega arith) (λ _. by-test (λ n. n ≤ 4) (leb d 300) 3 4 (λ _. omega arith) (λ _. omega arith))))
 
-start-in-range : (s : Setup) → setupInRange s ≡ true → InRange (start s)
+periods-later : (n : ℕ) (xs : List Tested) → PeriodsUpTo n xs → PeriodsUpTo (n + 1) xs
+periods-later n [] r = tt
+periods-later n (x ∷ xs) r = (omega (arith, r .0), periods-later n xs (r .1))
+
+-- a new period has no engines yet
+pub none-in-next : (n : ℕ) (xs : List Tested) → PeriodsUpTo n xs → testedIn (n + 1) xs ≡ 0
+none-in-next n [] r = refl
+none-in-next n (x ∷ xs) r = rw (ne-eqb (x .period) (n + 1) (λ e. absurd (omega (arith, r .0))), none-in-next n xs (r .1))
+
+pub start-in-range : (s : Setup) → setupInRange s ≡ true → InRange (start s)
 start-in-range s h =
     record {
       setup = h;
       standards = right (productionInRange s) (standardsInRange (s .standards)) (left (productionInRange s && standardsInRange (s .standards)) (factorsInRange s) h);
       period = omega arith;
+      engines = tt;
       events = omega arith;
       histories = λ q. record { few = omega arith; tests = tt };
     }
@@ -91,6 +102,7 @@ after-in-range (Engine number readings results) p r h =
       setup = r .setup;
       standards = r .standards;
       period = r .period;
+      engines = (le-refl (p .period), r .engines);
       events = omega (arith, not-full p (Engine number readings results) h);
       histories = λ q.
           record {
@@ -99,17 +111,18 @@ after-in-range (Engine number readings results) p r h =
           };
     }
 after-in-range (Amendment standards) p r h =
-    record { setup = r .setup; standards = fitting p (Amendment standards) h; period = r .period; events = omega (arith, not-full p (Amendment standards) h); histories = r .histories }
+    record { setup = r .setup; standards = fitting p (Amendment standards) h; period = r .period; engines = r .engines; events = omega (arith, not-full p (Amendment standards) h); histories = r .histories }
 after-in-range NextPeriod p r h =
     record {
       setup = r .setup;
       standards = r .standards;
       period = omega (arith, period-room p h, periods-le (p .setup .volume) (p .setup .days));
+      engines = periods-later (p .period) (p .tested) (r .engines);
       events = omega (arith, not-full p NextPeriod h);
       histories = r .histories;
     }
 after-in-range Declaration p r h =
-    record { setup = r .setup; standards = r .standards; period = r .period; events = omega (arith, not-full p Declaration h); histories = r .histories }
+    record { setup = r .setup; standards = r .standards; period = r .period; engines = r .engines; events = omega (arith, not-full p Declaration h); histories = r .histories }
 
 pub valid-in-range : (s : Setup) (es : List Event) → valid s es ≡ true → InRange (replay s es)
 valid-in-range s [] h = start-in-range s h

@@ -1,0 +1,15 @@
+-- `summary::reached` meets its contract. Assumes nothing.
+use mathlib.Core.Path.{_∙_}
+use Rattle.engines.proofs.Shown.{size-reached}
+use borrow.Author.Needs.{needs}
+use Rattle.engines.proofs.summary.reached.Statement.{statement}
+use Rattle.engines.proofs.summary.reached.Tie as tie
+
+size-reached-requires : tie.Need-size-reached-requires
+size-reached-requires c κs = search needs
+
+returns : tie.Need-returns
+returns c = λ k h e. c .size-reached .ensures ∙ size-reached k (c .before .before .args .f) h e
+
+pub reached-spec : {M : Type 1} → statement M
+reached-spec = tie.close (tie.spec size-reached-requires returns)
