@@ -1,7 +1,12 @@
--- Facts of tests: `cond`, `&&`, `||` and `not`.
+-- Facts of tests: `cond`, `&&`, `||`, `not`, and of two numbers.
 -- Assumes nothing.
 use mathlib.Core.Path.{_≡_, refl}
 use mathlib.Core.Bool.{Bool, true, false, cond, not, _&&_, _||_, true≢false, and-eq-true-iff}
+use Prim.Native.Nat.{ℕ, _<_}
+use native.Mathlib.Omega.{arith}
+use native.Mathlib.Decide.{decLt}
+use lib.Dec.{leb, ltb}
+use borrow.Author.Tests.{lt-ltb, le-ltb, le-leb, lt-leb}
 
 -- to prove a fact of `cond b x y`, prove it of x where b is true and of y where b is false
 pub by-test {ℓ} : {A : Type 0} (P : A → Type ℓ) (b : Bool) (x y : A) → (b ≡ true → P x) → (b ≡ false → P y) → P (cond b x y)
@@ -23,3 +28,11 @@ false-not h = rw h
 pub not-false : (a : Bool) → not a ≡ false → a ≡ true
 not-false true h = refl
 not-false false h = absurd (true≢false h)
+
+-- below is not at least
+pub ltb-not-leb : (a b : ℕ) → ltb a b ≡ not (leb b a)
+ltb-not-leb a b = by (decLt a b)
+  where
+    by : Dec (a < b) → ltb a b ≡ not (leb b a)
+    by (yes l) = rw (lt-ltb a b l, lt-leb b a l)
+    by (no f) = rw (le-ltb a b (omega arith), le-leb b a (omega arith))

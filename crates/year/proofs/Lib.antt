@@ -4,3 +4,4 @@ pub mod Finer
 pub mod Valid
 pub mod Kept
 pub mod Ranges
+pub mod Closed

@@ -51,6 +51,12 @@ periods-later : (n : ℕ) (xs : List Tested) → PeriodsUpTo n xs → PeriodsUpT
 periods-later n [] r = tt
 periods-later n (x ∷ xs) r = (omega (arith, r .0), periods-later n xs (r .1))
 
+-- a period has at most all engines
+pub tested-in-le : (n : ℕ) (xs : List Tested) → testedIn n xs ≤ length xs
+tested-in-le n [] = omega arith
+tested-in-le n (x ∷ xs) =
+    by-test (λ m. m + testedIn n xs ≤ length (x ∷ xs)) (eqb (x .period) n) 1 0 (λ _. omega (arith, tested-in-le n xs)) (λ _. omega (arith, tested-in-le n xs))
+
 -- a new period has no engines yet
 pub none-in-next : (n : ℕ) (xs : List Tested) → PeriodsUpTo n xs → testedIn (n + 1) xs ≡ 0
 none-in-next n [] r = refl

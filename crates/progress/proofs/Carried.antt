@@ -1,0 +1,71 @@
+-- What is carried beside the year, taken apart: the number of engines, and each pollutant's figures with their ranges.
+-- Assumes nothing.
+use mathlib.Core.Path.{_≡_, sym, ap, _∙_}
+use mathlib.Core.Bool.{true}
+use Prim.Native.Nat.{ℕ, _≤_, _<_}
+use native.Mathlib.Omega.{arith}
+use lib.ListN.{length}
+use Rattle.statistics.specs.Ranges.{HistoryInRange}
+use Rattle.estimates.specs.Ranges.{SizeInRange}
+use Rattle.cumsum.specs.Marks.{marks, failed, undecided}
+use Rattle.year.specs.declared.Pair.{Pair}
+use Rattle.year.specs.declared.Event.the-variants.{Engine}
+use Rattle.year.specs.Setup.{Pollutant, Hcnox, Co, of}
+use Rattle.year.specs.Replay.{history}
+use Rattle.year.specs.Admissible.{admissible}
+use Rattle.year.proofs.Replayed.{history-length}
+use Rattle.year.proofs.Ranges.{tested-in-le, engine-room, engine-results}
+use Rattle.figures.specs.declared.Running.{Running}
+use Rattle.figures.specs.Running.{running, RunningInRange}
+use Rattle.figures.proofs.OneMore.{running-size}
+use Rattle.engines.specs.Engines.{tested}
+use Rattle.engines.proofs.Arrays.{tested-length}
+use Rattle.progress.specs.declared.Progress.{Progress as State}
+use Rattle.progress.specs.State.{shown, Consistent}
+use borrow.Author.Tests.{leb-true}
+
+-- a pollutant's figures of a state
+abbrev pub figuresOf : Pollutant → State → Running
+figuresOf Hcnox p = p .hcnox
+figuresOf Co p = p .co
+
+module _ (p : State) (c : Consistent p) where
+  pub counted : length (tested (p .engines)) ≡ p .engines .count
+  counted = tested-length (p .engines) (p .engines .count)
+
+  pub count-le : p .engines .count ≤ 40
+  count-le = omega (arith, c .inRange .histories Hcnox .few, history-length Hcnox (tested (p .engines)), counted)
+
+  pub current-le : p .current ≤ 40
+  current-le = omega (arith, c .current, tested-in-le (p .period) (tested (p .engines)), count-le, counted)
+
+  pub carried : (q : Pollutant) → figuresOf q p ≡ running 1024 (history q (tested (p .engines)))
+  carried Hcnox = c .hcnox
+  carried Co = c .co
+
+  module _ (q : Pollutant) where
+    pub size-fits : SizeInRange (figuresOf q p .sums .n) (figuresOf q p .sums .total) (figuresOf q p .standard) (figuresOf q p .sums .variation)
+    size-fits = running-size 1024 (figuresOf q p) (history q (tested (p .engines))) (carried q) (c .inRange .histories q)
+
+    pub failed-is : figuresOf q p .failed ≡ failed (marks 1024 (history q (tested (p .engines))))
+    unfolding running
+    failed-is = ap (λ (f : Running). f .failed) (carried q)
+
+    pub undecided-is : figuresOf q p .undecided ≡ undecided (marks 1024 (history q (tested (p .engines))))
+    unfolding running
+    undecided-is = ap (λ (f : Running). f .undecided) (carried q)
+
+  -- an engine that could be entered has a place, and room in the figures
+  module _ (number readings : ℕ) (results : Pair) (h : admissible (shown p) (Engine number readings results) ≡ true) where
+    pub place : p .engines .count < 40
+    place = omega (arith, engine-room (shown p) number readings results h, counted)
+
+    pub add-fits : (q : Pollutant) → RunningInRange 1024 (figuresOf q p) (of q results)
+    add-fits q =
+        record {
+          history = history q (tested (p .engines));
+          worked = carried q;
+          inRange = record { few = omega (arith, place, history-length q (tested (p .engines)), counted); tests = c .inRange .histories q .tests };
+          result = leb-true _ _ (engine-results (shown p) number readings results h q);
+          fine = omega arith;
+        }

@@ -1,0 +1,105 @@
+-- The state of a setup, and of one event more: it stands for the year with that event, and what it carries is worked from it.
+-- Assumes nothing.
+use mathlib.Core.Path.{_≡_, refl, sym, subst}
+use mathlib.Core.Bool.{Bool, true, false}
+use mathlib.Core.List.{[], _∷_}
+use Prim.Native.Nat.{ℕ, _+_}
+use native.Mathlib.Omega.{arith}
+use borrow.Author.Tests.{eq-eqb}
+use Rattle.year.specs.declared.Pair.{Pair}
+use Rattle.year.specs.declared.Setup.{Setup}
+use Rattle.year.specs.declared.Event.the-variants.{Engine, Amendment, NextPeriod, Declaration}
+use Rattle.year.specs.Setup.{Hcnox, Co, setupInRange}
+use Rattle.year.specs.Replay.{Progress, start, after, history}
+use Rattle.year.specs.Admissible.{admissible}
+use Rattle.year.specs.Ranges.{InRange}
+use Rattle.year.proofs.Ranges.{start-in-range, after-in-range, none-in-next}
+use Rattle.figures.specs.declared.Running.{Running}
+use Rattle.figures.specs.Running.{running}
+use Rattle.engines.specs.declared.Engines.{Engines}
+use Rattle.engines.specs.Engines.{tested}
+use Rattle.progress.specs.declared.Progress.{Progress as State}
+use Rattle.progress.specs.State.{shown, Consistent}
+
+-- the state stands for this year, and is consistent
+abbrev pub Stands : State → Progress → Type 0
+Stands p y = (shown p ≡ y) × Consistent p
+
+pub started : (s : Setup) (e : Engines) (h c : Running) → setupInRange s ≡ true → tested e ≡ []
+    → ((k : ℕ) → h ≡ running k []) → ((k : ℕ) → c ≡ running k [])
+    → Stands
+    record { setup = s; standards = s .standards; period = 1; engines = e; stored = 0; declared = false; current = 0; hcnox = h; co = c }
+    (start s)
+started s e h c r te hh hc =
+    (stands, record { inRange = subst InRange (sym stands) (start-in-range s r); current = rw te; hcnox = rw te (hh 1024); co = rw te (hc 1024) })
+  where
+    stands : record { setup = s; standards = s .standards; period = 1; tested = tested e; stored = 0; declared = false } ≡ start s
+    stands = rw te
+
+-- a state with one event more that is no engine
+abbrev changed : State → Pair → ℕ → Bool → ℕ → State
+changed p standards period declared current =
+    record {
+      setup = p .setup;
+      standards = standards;
+      period = period;
+      engines = p .engines;
+      stored = p .stored + 1;
+      declared = declared;
+      current = current;
+      hcnox = p .hcnox;
+      co = p .co;
+    }
+
+module _ (p : State) (c : Consistent p) where
+  pub amended : (t : Pair) → admissible (shown p) (Amendment t) ≡ true
+      → Stands (changed p t (p .period) (p .declared) (p .current)) (after (Amendment t) (shown p))
+  amended t h =
+      (refl, record { inRange = after-in-range (Amendment t) (shown p) (c .inRange) h; current = c .current; hcnox = c .hcnox; co = c .co })
+
+  pub next-period : admissible (shown p) NextPeriod ≡ true → Stands (changed p (p .standards) (p .period + 1) (p .declared) 0) (after NextPeriod (shown p))
+  next-period h = (
+    refl,
+    record {
+      inRange = after-in-range NextPeriod (shown p) (c .inRange) h;
+      current = sym (none-in-next (p .period) (tested (p .engines)) (c .inRange .engines));
+      hcnox = c .hcnox;
+      co = c .co;
+    },
+  )
+
+  pub declared : admissible (shown p) Declaration ≡ true → Stands (changed p (p .standards) (p .period) true (p .current)) (after Declaration (shown p))
+  declared h =
+      (refl, record { inRange = after-in-range Declaration (shown p) (c .inRange) h; current = c .current; hcnox = c .hcnox; co = c .co })
+
+  pub engine : (number readings : ℕ) (results : Pair) (e : Engines) (h o : Running)
+      → admissible (shown p) (Engine number readings results) ≡ true
+      → tested e ≡ record { number = number; results = results; standards = p .standards; period = p .period } ∷ tested (p .engines)
+      → h ≡ running 1024 (record { result = results .hcnox; standard = p .standards .hcnox } ∷ history Hcnox (tested (p .engines)))
+      → o ≡ running 1024 (record { result = results .co; standard = p .standards .co } ∷ history Co (tested (p .engines)))
+      → Stands
+      record {
+        setup = p .setup;
+        standards = p .standards;
+        period = p .period;
+        engines = e;
+        stored = p .stored + 1;
+        declared = p .declared;
+        current = p .current + 1;
+        hcnox = h;
+        co = o;
+      }
+      (after (Engine number readings results) (shown p))
+  engine number readings results e h o a te eh eo = (
+    stands,
+    record {
+      inRange = subst InRange (sym stands) (after-in-range (Engine number readings results) (shown p) (c .inRange) a);
+      current = rw (te, eq-eqb (p .period) (p .period) refl) (omega (arith, c .current));
+      hcnox = rw te eh;
+      co = rw te eo;
+    },
+  )
+    where
+      stands : record { setup = p .setup; standards = p .standards; period = p .period; tested = tested e; stored = p .stored + 1; declared = p .declared }
+          ≡ after (Engine number readings results) (shown p)
+      stands = rw te

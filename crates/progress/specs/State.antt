@@ -1,0 +1,30 @@
+-- What the state of the code says, in the words of the definitions, and what it carries beside it so that nothing is worked twice.
+-- Assumes nothing.
+use mathlib.Core.Path.{_≡_}
+use Prim.Native.Nat.{ℕ}
+use Rattle.year.specs.Setup.{Hcnox, Co}
+use Rattle.year.specs.Replay.{Progress, history, testedIn}
+use Rattle.year.specs.Ranges.{InRange}
+use Rattle.figures.specs.Running.{running}
+use Rattle.engines.specs.Engines.{tested}
+use Rattle.progress.specs.declared.Progress.{Progress as State}
+
+-- the progress of the year that a state stands for
+abbrev pub shown : State → Progress
+shown p =
+    record {
+      setup = p .setup;
+      standards = p .standards;
+      period = p .period;
+      tested = tested (p .engines);
+      stored = p .stored;
+      declared = p .declared;
+    }
+
+-- the year is in range, and what is carried beside it is what is worked from it: the engines of the current period, and the figures of both pollutants
+-- at resolution 1,024
+pub record Consistent (p : State) : Type 0 where
+  pub inRange : InRange (shown p)
+  pub current : p .current ≡ testedIn (p .period) (tested (p .engines))
+  pub hcnox : p .hcnox ≡ running 1024 (history Hcnox (tested (p .engines)))
+  pub co : p .co ≡ running 1024 (history Co (tested (p .engines)))

@@ -1,0 +1,90 @@
+// One event more.
+ghost use mathlib.Core.Path.{_≡_};
+ghost use mathlib.Core.Bool.{true};
+ghost use Prim.Native.Nat.{_≤_, _<_};
+ghost use Rattle.year.specs.Setup.{setupInRange};
+ghost use Rattle.year.specs.Replay.{start, after};
+ghost use Rattle.year.specs.Admissible.{admissible};
+ghost use Rattle.progress.specs.State.{shown, Consistent};
+use crate::Progress;
+use engines::store::no_engines;
+use engines::store::with_engine;
+use year::Event;
+use year::Pair;
+use year::Setup;
+
+// A setup with no events.
+pub fn start(setup: Setup) -> Progress
+    requires { ⌜ setupInRange setup ≡ true ⌝ }
+    ensures { λ r. ⌜ shown r ≡ start setup ⌝ }
+    ensures { λ r. ⌜ Consistent r ⌝ }
+{
+    let standards = setup.standards;
+    Progress {
+        setup,
+        standards,
+        period: 1,
+        engines: no_engines(),
+        stored: 0,
+        declared: false,
+        current: 0,
+        hcnox: figures::start(),
+        co: figures::start(),
+    }
+}
+
+// An engine: both pollutants' figures go on under the standards in force.
+fn engine(p: Progress, number: u32, readings: u32, results: Pair) -> Progress
+    requires { ⌜ Consistent p × (admissible (shown p) (Event.Engine number readings results) ≡ true) ⌝ }
+    ensures { λ r. ⌜ shown r ≡ after (Event.Engine number readings results) (shown p) ⌝ }
+    ensures { λ r. ⌜ Consistent r ⌝ }
+{
+    let standards = p.standards;
+    let engines = p.engines;
+    let hcnox = p.hcnox;
+    let co = p.co;
+    let setup = p.setup;
+    Progress {
+        setup,
+        standards,
+        period: p.period,
+        engines: with_engine(engines, number, results, standards, p.period),
+        stored: p.stored + 1,
+        declared: p.declared,
+        current: p.current + 1,
+        hcnox: figures::add(hcnox, results.hcnox, standards.hcnox, 1024),
+        co: figures::add(co, results.co, standards.co, 1024),
+    }
+}
+
+// One event more that could be entered.
+pub fn after(p: Progress, e: Event) -> Progress
+    requires { ⌜ Consistent p × (admissible (shown p) e ≡ true) ⌝ }
+    ensures { λ r. ⌜ shown r ≡ after e (shown p) ⌝ }
+    ensures { λ r. ⌜ Consistent r ⌝ }
+{
+    let mut next = p;
+    match e {
+        Event::Engine {
+            number,
+            readings,
+            results,
+        } => engine(p, number, readings, results),
+        Event::Amendment(standards) => {
+            next.standards = standards;
+            next.stored = p.stored + 1;
+            next
+        }
+        Event::NextPeriod => {
+            next.period = p.period + 1;
+            next.current = 0;
+            next.stored = p.stored + 1;
+            next
+        }
+        Event::Declaration => {
+            next.declared = true;
+            next.stored = p.stored + 1;
+            next
+        }
+    }
+}

@@ -1,0 +1,33 @@
+-- A year takes no more events exactly if it was declared or a pollutant has failed at resolution 1,024: the two verdicts come first.
+-- Assumes nothing.
+use mathlib.Core.Path.{_≡_, refl}
+use mathlib.Core.Bool.{Bool, true, false, _||_}
+use mathlib.Core.List.{[], _∷_}
+use Prim.Native.Nat.{ℕ}
+use lib.Dec.{eqb}
+use Rattle.buffers.specs.Rows.{first, applies}
+use Rattle.cumsum.specs.Marks.{marks, failed}
+use Rattle.year.specs.Setup.{either}
+use Rattle.year.specs.Replay.{Progress, history}
+use Rattle.year.specs.Verdict.{verdictRows, verdict}
+use Rattle.year.specs.Admissible.{closed}
+
+abbrev firstOf : (d f u s r t p : Bool) → ℕ
+firstOf d f u s r t p = first ((d, 7) ∷ (f, 6) ∷ (u, 5) ∷ (s, 0) ∷ (r, 2) ∷ (t, 3) ∷ (p, 4) ∷ []) 1
+
+is-closed : (d f u s r t p : Bool) → (eqb (firstOf d f u s r t p) 6 || eqb (firstOf d f u s r t p) 7) ≡ (d || f)
+is-closed true f u s r t p = refl
+is-closed false true u s r t p = refl
+is-closed false false true s r t p = refl
+is-closed false false false true r t p = refl
+is-closed false false false false true t p = refl
+is-closed false false false false false true p = refl
+is-closed false false false false false false true = refl
+is-closed false false false false false false false = refl
+
+pub closed-is : (p : Progress) → closed p ≡ (p .declared || either (λ q. failed (marks 1024 (history q (p .tested)))))
+unfolding closed verdict
+closed-is p = is-closed (at 7) (at 6) (at 5) (at 0) (at 2) (at 3) (at 4)
+  where
+    at : ℕ → Bool
+    at = applies (verdictRows 1024 p)
