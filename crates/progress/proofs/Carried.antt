@@ -18,8 +18,8 @@ use Rattle.year.proofs.Ranges.{tested-in-le, engine-room, engine-results}
 use Rattle.figures.specs.declared.Running.{Running}
 use Rattle.figures.specs.Running.{running, RunningInRange}
 use Rattle.figures.proofs.OneMore.{running-size}
-use Rattle.engines.specs.Engines.{tested}
-use Rattle.engines.proofs.Arrays.{tested-length}
+use Rattle.engines.specs.Engines.{testsTo, tested, ReworkInRange}
+use Rattle.engines.proofs.Arrays.{testsOf, tested-length, tested-history}
 use Rattle.progress.specs.declared.Progress.{Progress as State}
 use Rattle.progress.specs.State.{shown, Consistent}
 use borrow.Author.Tests.{leb-true}
@@ -54,6 +54,17 @@ module _ (p : State) (c : Consistent p) where
     pub undecided-is : figuresOf q p .undecided ≡ undecided (marks 1024 (history q (tested (p .engines))))
     unfolding running
     undecided-is = ap (λ (f : Running). f .undecided) (carried q)
+
+    -- the figures worked from the arrays at a resolution: the ranges are met, and they are the year's
+    pub rework-fits : (k : ℕ) → k ≤ 8192 → ReworkInRange (testsOf q (p .engines)) (p .engines .count) k
+    rework-fits k fine = record { history = rw (← tested-history q (p .engines) (p .engines .count)) (c .inRange .histories q); fine = fine }
+
+    pub reworked : (k : ℕ) (f : Running) → f ≡ running k (testsTo (testsOf q (p .engines)) (p .engines .count)) → f ≡ running k (history q (tested (p .engines)))
+    reworked k f e = e ∙ ap (running k) (sym (tested-history q (p .engines) (p .engines .count)))
+
+    pub rework-size : (k : ℕ) (f : Running) → f ≡ running k (testsTo (testsOf q (p .engines)) (p .engines .count))
+        → SizeInRange (f .sums .n) (f .sums .total) (f .standard) (f .sums .variation)
+    rework-size k f e = running-size k f (history q (tested (p .engines))) (reworked k f e) (c .inRange .histories q)
 
   -- an engine that could be entered has a place, and room in the figures
   module _ (number readings : ℕ) (results : Pair) (h : admissible (shown p) (Engine number readings results) ≡ true) where

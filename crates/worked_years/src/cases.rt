@@ -1,0 +1,296 @@
+// The cases, in the order of document 01.
+ghost use mathlib.Core.Path.{_≡_};
+ghost use Prim.Native.Nat.{_+_, _≤_, _<_};
+ghost use lib.ListN.{length};
+use crate::lines::end;
+use crate::lines::figures;
+use crate::lines::next;
+use crate::lines::number;
+use crate::lines::status;
+use crate::lines::text;
+use crate::work::Worked;
+use crate::work::work;
+use rounding::Factor;
+use rounding::nearest_even;
+use rounding::result_of;
+use schedule::needs;
+use schedule::one_percent;
+use schedule::periods;
+use year::Factors;
+use year::Pair;
+use year::Setup;
+
+fn no_factor() -> Factor {
+    Factor { kind: 0, value: 0 }
+}
+
+fn setup_of(volume: u32, hcnox: u32, co: u32) -> Setup {
+    Setup {
+        volume,
+        days: 365,
+        standards: Pair { hcnox, co },
+        factors: Factors {
+            hcnox: no_factor(),
+            co: no_factor(),
+        },
+    }
+}
+
+// A line for the whole year: the events entered, the status, and the figures of both pollutants at another resolution.
+fn year(setup: Setup, numbers: &[u32], resolution: u64) {
+    let w = work(setup, numbers, resolution);
+    match w {
+        Worked::Year {
+            stored,
+            status: s,
+            hcnox,
+            co,
+        } => {
+            number(stored as u64);
+            status(s);
+            figures(hcnox);
+            figures(co);
+        }
+        Worked::NoYear => text(b"no year"),
+    }
+    end();
+}
+
+// The year before its first event and after each.
+fn year_by_year(setup: Setup, numbers: &[u32], resolution: u64) {
+    year(setup, &numbers[..0], resolution);
+    let mut at: usize = 0;
+    while 5 <= numbers.len() - at {
+        at += 5;
+        year(setup, &numbers[..at], resolution);
+    }
+}
+
+// 1,000,500 to 1,000; 1,001,500 to 1,002; the mean of 800 and 801; 50 under factor 1,050 of kind 1; and readings rounded one by one.
+pub fn rounding() {
+    text(b"rounding");
+    next(nearest_even(1000500, 1000));
+    next(nearest_even(1001500, 1000));
+    next(nearest_even(800 + 801, 2));
+    let fifty = [50000u32];
+    next(result_of(
+        Factor {
+            kind: 1,
+            value: 1050,
+        },
+        &fifty,
+    ));
+    let two = [1500u32, 600];
+    next(result_of(no_factor(), &two));
+    let three = [20000000u32, 20000000, 20000000];
+    next(result_of(
+        Factor {
+            kind: 1,
+            value: 60000,
+        },
+        &three,
+    ));
+    end();
+}
+
+// Periods, what they need, and one percent.
+pub fn schedules() {
+    text(b"periods");
+    next(periods(1599, 365) as u64);
+    next(periods(1600, 120) as u64);
+    next(periods(1600, 121) as u64);
+    next(periods(1600, 300) as u64);
+    next(periods(1600, 301) as u64);
+    next(needs(1) as u64);
+    next(needs(2) as u64);
+    end();
+    text(b"percent");
+    next(one_percent(250));
+    next(one_percent(350));
+    next(one_percent(99999999));
+    end();
+}
+
+// Document 01's whole run. The last engine comes after the declaration.
+pub fn printed_run() {
+    let events = [
+        1u32,
+        1,
+        1,
+        998,
+        5000,
+        1,
+        2,
+        1,
+        1071,
+        5000,
+        1,
+        3,
+        1,
+        900,
+        5000,
+        4,
+        0,
+        0,
+        0,
+        0,
+        1,
+        4,
+        1,
+        0,
+        0,
+    ];
+    text(b"run\n");
+    year_by_year(setup_of(5000, 800, 6100), &events, 8192);
+}
+
+// T 100, X 500 three times, and a fourth after the failure; T 1,000, X 800 twice and X 1,000 twice, P 1,500.
+pub fn starred_years() {
+    let three = [
+        1u32,
+        1,
+        1,
+        500,
+        5000,
+        1,
+        2,
+        1,
+        500,
+        5000,
+        1,
+        3,
+        1,
+        500,
+        5000,
+        1,
+        4,
+        1,
+        500,
+        5000,
+    ];
+    text(b"failed\n");
+    year_by_year(setup_of(5000, 100, 6100), &three, 1024);
+    let low = [1u32, 1, 1, 800, 5000, 1, 2, 1, 800, 5000];
+    text(b"reached\n");
+    year_by_year(setup_of(1500, 1000, 6100), &low, 1024);
+    let equal = [1u32, 1, 1, 1000, 5000, 1, 2, 1, 1000, 5000];
+    text(b"no size\n");
+    year_by_year(setup_of(1500, 1000, 6100), &equal, 1024);
+}
+
+// Amendments, periods and refused events: a number twice, a period while short, no reading, a result above 20,000.
+pub fn amended() {
+    let events = [
+        3u32,
+        0,
+        0,
+        0,
+        0,
+        1,
+        1,
+        3,
+        998,
+        5000,
+        1,
+        1,
+        1,
+        900,
+        5000,
+        2,
+        700,
+        6100,
+        0,
+        0,
+        2,
+        705,
+        6100,
+        0,
+        0,
+        1,
+        2,
+        1,
+        900,
+        5000,
+        3,
+        0,
+        0,
+        0,
+        0,
+        3,
+        0,
+        0,
+        0,
+        0,
+        1,
+        3,
+        0,
+        900,
+        5000,
+        1,
+        3,
+        1,
+        900,
+        20001,
+        1,
+        0,
+        1,
+        900,
+        5000,
+        1,
+        65535,
+        1,
+        950,
+        6000,
+        3,
+        0,
+        0,
+        0,
+        0,
+    ];
+    text(b"amended\n");
+    year_by_year(setup_of(5000, 800, 6100), &events, 2048);
+    text(b"out of range\n");
+    year(setup_of(0, 800, 6100), &events, 1024);
+    year(setup_of(5000, 805, 6100), &events, 1024);
+}
+
+// Engine i + 1 at 0 or 20,000, CO the other way round, from a place on.
+fn put_engine(events: &mut [u32], at: usize, i: u32)
+    requires { ⌜ (at + 5 ≤ length (now events)) × (i < 41) ⌝ }
+{
+    let high = 20000 * (i % 2);
+    events[at] = 1;
+    events[at + 1] = i + 1;
+    events[at + 2] = 3;
+    events[at + 3] = high;
+    events[at + 4] = 20000 - high;
+}
+
+fn put_engines(events: &mut [u32])
+    requires { ⌜ length (now events) ≡ 205 ⌝ }
+{
+    let mut i: usize = 0;
+    while i < 41 {
+        put_engine(events, 5 * i, i as u32);
+        i += 1;
+    }
+}
+
+// The forty-first engine has no place.
+pub fn largest(hcnox: u32, co: u32) {
+    let mut events = [0u32; 205];
+    put_engines(&mut events);
+    text(b"largest\n");
+    year_by_year(setup_of(99999999, hcnox, co), &events, 8192);
+}
+
+// Thirty-eight engines under 20,000, then an amendment to 10 for both in the place of the next, and the last two.
+pub fn largest_amended() {
+    let mut events = [0u32; 205];
+    put_engines(&mut events);
+    events[190] = 2;
+    events[191] = 10;
+    events[192] = 10;
+    text(b"largest, amended\n");
+    year_by_year(setup_of(99999999, 20000, 20000), &events, 8192);
+}

@@ -1,0 +1,112 @@
+// A year worked from numbers, whatever they are.
+ghost use mathlib.Core.Path.{_≡_};
+ghost use mathlib.Core.Bool.{true};
+ghost use Prim.Native.Nat.{_+_, _≤_};
+ghost use lib.ListN.{length};
+ghost use Rattle.year.specs.Setup.{setupInRange};
+ghost use Rattle.progress.specs.State.{Consistent};
+use engines::rework::running_at;
+use engines::summary::figures_of;
+use progress::Progress;
+use progress::asking::is_admissible;
+use progress::entering::after;
+use progress::entering::start;
+use progress::showing::status_of;
+use schedule::setup_in_range;
+use year::Event;
+use year::Figures;
+use year::Pair;
+use year::Setup;
+use year::Status;
+
+// The number of events that were entered, the status, and the figures of both pollutants worked anew from the arrays at another resolution.
+pub enum Worked {
+    Year {
+        stored: u32,
+        status: Status,
+        hcnox: Figures,
+        co: Figures,
+    },
+    NoYear,
+}
+
+// Five numbers are an event: its kind, and an engine's number, readings and two results, or an amendment's two standards.
+fn event_at(numbers: &[u32], at: usize) -> Event
+    requires { ⌜ at + 5 ≤ length (now numbers) ⌝ }
+{
+    let kind = numbers[at];
+    let first = numbers[at + 1];
+    let second = numbers[at + 2];
+    let results = Pair {
+        hcnox: numbers[at + 3],
+        co: numbers[at + 4],
+    };
+    if kind == 1 {
+        return Event::Engine {
+            number: first,
+            readings: second,
+            results,
+        };
+    }
+    if kind == 2 {
+        return Event::Amendment(Pair {
+            hcnox: first,
+            co: second,
+        });
+    }
+    if kind == 3 {
+        return Event::NextPeriod;
+    }
+    Event::Declaration
+}
+
+// An event that could not be entered leaves the year as it is.
+fn enter(p: Progress, e: Event) -> Progress
+    requires { ⌜ Consistent p ⌝ }
+    ensures { λ r. ⌜ Consistent r ⌝ }
+{
+    if is_admissible(p, e) {
+        return after(p, e);
+    }
+    p
+}
+
+fn enter_all(setup: Setup, numbers: &[u32]) -> Progress
+    requires { ⌜ setupInRange setup ≡ true ⌝ }
+    ensures { λ r. ⌜ Consistent r ⌝ }
+{
+    let mut p = start(setup);
+    let mut at: usize = 0;
+    while 5 <= numbers.len() - at {
+        p = enter(p, event_at(numbers, at));
+        at += 5;
+    }
+    p
+}
+
+fn at_most(n: u64, most: u64) -> u64
+    ensures { λ r. ⌜ r ≤ most ⌝ }
+{
+    if most < n {
+        return most;
+    }
+    n
+}
+
+// The year of a setup and the events that the numbers say, at 1,024 and, from the arrays, at `resolution` or at 8,192 where that is less.
+pub fn work(setup: Setup, numbers: &[u32], resolution: u64) -> Worked {
+    if !setup_in_range(setup) {
+        return Worked::NoYear;
+    }
+    let p = enter_all(setup, numbers);
+    let k = at_most(resolution, 8192);
+    let engines = p.engines;
+    let hcnox = engines.hcnox;
+    let co = engines.co;
+    Worked::Year {
+        stored: p.stored,
+        status: status_of(p),
+        hcnox: figures_of(running_at(hcnox, engines.count, k)),
+        co: figures_of(running_at(co, engines.count, k)),
+    }
+}
