@@ -39,11 +39,11 @@ fn engine(p: Progress, number: u32, readings: u32, results: Pair) -> Progress
     ensures { λ r. ⌜ shown r ≡ after (Event.Engine number readings results) (shown p) ⌝ }
     ensures { λ r. ⌜ Consistent r ⌝ }
 {
+    let setup = p.setup;
     let standards = p.standards;
     let engines = p.engines;
     let hcnox = p.hcnox;
     let co = p.co;
-    let setup = p.setup;
     Progress {
         setup,
         standards,
