@@ -1,10 +1,7 @@
 -- The worked cases of intervals and marks, from those of the deviation.
 -- Assumes nothing.
-use mathlib.Core.Path.{_≡_, refl}
-use mathlib.Core.List.{[], _∷_}
-use lib.Dec.{lit<, lit≤}
-use Rattle.statistics.specs.Spread.{variation, deviationOf}
-use Rattle.statistics.specs.Cases.{under, exactly}
+use mathlib.Core.Path.{refl}
+use Rattle.statistics.specs.Spread.{variation}
 use Rattle.statistics.proofs.Deviations.{deviation-none}
 use Rattle.statistics.proofs.Cases as statistics
 use Rattle.cumsum.specs.Marks.{compared, failed, undecided}

@@ -2,7 +2,7 @@
 -- Assumes nothing.
 use mathlib.Core.Path.{_≡_, refl, sym, ap, _∙_}
 use mathlib.Core.Bool.{Bool, true, false, _||_}
-use mathlib.Core.List.{List, [], _∷_}
+use mathlib.Core.List.{List, _∷_}
 use mathlib.Core.Logic.{⊎-elim}
 use Prim.Native.Nat.{ℕ, zero, suc, _+_, _-_, _≤_, _<_}
 use native.Mathlib.Nat.{le-suc-iff}
@@ -10,7 +10,7 @@ use native.Mathlib.Numerals.{add-one}
 use native.Mathlib.Omega.{arith}
 use borrow.Author.Tests.{eq-eqb, ne-eqb}
 use lib.Dec.{eqb}
-use lib.ListN.{length, getD, set}
+use lib.ListN.{length, getD, set, length-set}
 use lib.Seq.{getD-set-same, getD-set-other}
 use Rattle.statistics.specs.Spread.{Test}
 use Rattle.statistics.specs.Ranges.{TestsInRange}
@@ -94,6 +94,16 @@ module _ (e : Engines) (number period : ℕ) (results standards : Pair) where
       → tested with-engine ≡ record { number = number; results = results; standards = standards; period = period } ∷ tested e
   tested-next h s =
       ap (λ (n : ℕ). testedTo with-engine n) (add-one (e .count)) ∙ joined (new-at h s) (kept (e .count) (omega arith))
+
+  -- a place written leaves the size
+  pub with-engine-sized : Sized e → Sized with-engine
+  with-engine-sized s =
+      record {
+        numbers = rw length-set (s .numbers);
+        periods = rw length-set (s .periods);
+        hcnox = record { results = rw length-set (s .hcnox .results); standards = rw length-set (s .hcnox .standards) };
+        co = record { results = rw length-set (s .co .results); standards = rw length-set (s .co .standards) };
+      }
 
 -- whether a number is among the first so many of a list
 abbrev pub among : List ℕ → ℕ → ℕ → Bool

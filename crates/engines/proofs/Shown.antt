@@ -8,7 +8,6 @@ use native.Mathlib.Omega.{arith}
 use Rattle.statistics.specs.declared.SampleSize.{SampleSize}
 use Rattle.statistics.specs.Spread.{Test}
 use Rattle.statistics.specs.SampleSize.{sampleSize, sizeReached, sizeReachedOf}
-use Rattle.year.specs.declared.Figures.{Figures}
 use Rattle.year.specs.Status.{blank, figures}
 use Rattle.figures.specs.declared.Running.{Running}
 use Rattle.figures.specs.Running.{running}

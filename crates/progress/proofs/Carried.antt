@@ -5,7 +5,6 @@ use mathlib.Core.Bool.{true}
 use Prim.Native.Nat.{ℕ, _≤_, _<_}
 use native.Mathlib.Omega.{arith}
 use lib.ListN.{length}
-use Rattle.statistics.specs.Ranges.{HistoryInRange}
 use Rattle.estimates.specs.Ranges.{SizeInRange}
 use Rattle.cumsum.specs.Marks.{marks, failed, undecided}
 use Rattle.year.specs.declared.Pair.{Pair}

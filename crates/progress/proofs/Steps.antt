@@ -26,12 +26,12 @@ abbrev pub Stands : State → Progress → Type 0
 Stands p y = (shown p ≡ y) × Consistent p
 
 pub started : (s : Setup) (e : Engines) (h c : Running) → setupInRange s ≡ true → tested e ≡ []
-    → ((k : ℕ) → h ≡ running k []) → ((k : ℕ) → c ≡ running k [])
+    → h ≡ running 1024 [] → c ≡ running 1024 []
     → Stands
     record { setup = s; standards = s .standards; period = 1; engines = e; stored = 0; declared = false; current = 0; hcnox = h; co = c }
     (start s)
 started s e h c r te hh hc =
-    (stands, record { inRange = subst InRange (sym stands) (start-in-range s r); current = rw te; hcnox = rw te (hh 1024); co = rw te (hc 1024) })
+    (stands, record { inRange = subst InRange (sym stands) (start-in-range s r); current = rw te; hcnox = rw te hh; co = rw te hc })
   where
     stands : record { setup = s; standards = s .standards; period = 1; tested = tested e; stored = 0; declared = false } ≡ start s
     stands = rw te

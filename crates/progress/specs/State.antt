@@ -1,7 +1,6 @@
 -- What the state of the code says, in the words of the definitions, and what it carries beside it so that nothing is worked twice.
 -- Assumes nothing.
 use mathlib.Core.Path.{_≡_}
-use Prim.Native.Nat.{ℕ}
 use Rattle.year.specs.Setup.{Hcnox, Co}
 use Rattle.year.specs.Replay.{Progress, history, testedIn}
 use Rattle.year.specs.Ranges.{InRange}

@@ -1,6 +1,5 @@
 // Whether an event could be entered.
 ghost use mathlib.Core.Path.{_≡_};
-ghost use mathlib.Core.Bool.{_&&_};
 ghost use Rattle.year.specs.Admissible.{numberInRange, resultsInRange, fits, admissible};
 ghost use Rattle.progress.specs.State.{shown, Consistent};
 use crate::Progress;

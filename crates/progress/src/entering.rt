@@ -1,7 +1,6 @@
 // One event more.
 ghost use mathlib.Core.Path.{_≡_};
 ghost use mathlib.Core.Bool.{true};
-ghost use Prim.Native.Nat.{_≤_, _<_};
 ghost use Rattle.year.specs.Setup.{setupInRange};
 ghost use Rattle.year.specs.Replay.{start, after};
 ghost use Rattle.year.specs.Admissible.{admissible};

@@ -1,10 +1,10 @@
 -- Work at m beside the calculator's work, for a year: the marks in printed order, the verdict, the intervals.
 -- Assumes nothing.
-use mathlib.Core.Path.{_≡_, refl, ap, _∙_}
+use mathlib.Core.Path.{_≡_, refl, _∙_}
 use mathlib.Core.Logic.{_≢_}
 use mathlib.Core.Bool.{Bool, true, false, cond, _||_, So, false≢true}
 use mathlib.Core.List.{List, [], _∷_, _++_, Forall₂, Forall₂·nil, Forall₂·cons}
-use Prim.Native.Nat.{ℕ, suc, _*_, _-_, _≤_}
+use Prim.Native.Nat.{ℕ, _*_, _-_, _≤_}
 use native.Mathlib.Omega.{arith}
 use lib.ListN.{length, drop, length-drop}
 use Rattle.cumsum.specs.declared.Mark.{Mark}

@@ -1,6 +1,6 @@
 -- `factor_in_range` meets its contract: kind 0, kind 1, and any other kind. Assumes nothing.
 use mathlib.Core.Path.{_≡_, sym}
-use mathlib.Core.Bool.{false, or-false}
+use mathlib.Core.Bool.{or-false}
 use lib.Dec.{leb}
 use borrow.Author.Needs.{needs}
 use borrow.Author.Tests.{ne-eqb}

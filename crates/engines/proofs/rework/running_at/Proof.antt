@@ -1,5 +1,5 @@
 -- `rework::running_at` meets its contract. The invariant: the figures are those of the engines before i. The measure is what is left. Assumes nothing.
-use mathlib.Core.Path.{_≡_, refl}
+use mathlib.Core.Path.{_≡_}
 use Prim.Native.Nat.{_-_, _≤_}
 use native.Mathlib.Numerals.{add-one}
 use native.Mathlib.Omega.{arith}

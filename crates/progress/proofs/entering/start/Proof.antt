@@ -18,7 +18,7 @@ returns c =
     let e = c .before .before in
     let s = e .before .before in
     started (s .args .setup) (e .no-engines .result) (c .before .start .result) (c .start2 .result) (s .pre)
-    (e .no-engines .ensures) (c .before .start .ensures) (c .start2 .ensures)
+    (e .no-engines .ensures) (c .before .start .ensures 1024) (c .start2 .ensures 1024)
 
 pub start-spec : {M : Type 1} → statement M
 start-spec = tie.close (tie.spec no-engines-requires start-requires start-requires-2 returns)

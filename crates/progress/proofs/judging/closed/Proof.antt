@@ -1,5 +1,5 @@
 -- `judging::closed` meets its contract. Assumes nothing.
-use mathlib.Core.Path.{sym, _∙_}
+use mathlib.Core.Path.{sym}
 use Rattle.year.specs.Setup.{Hcnox, Co}
 use Rattle.year.proofs.Closed.{closed-is}
 use Rattle.progress.specs.State.{shown}
