@@ -19,51 +19,45 @@ use Rattle.year.specs.Setup.{Pollutant, Hcnox, Co}
 use Rattle.year.specs.Replay.{Tested, history, isTested}
 use Rattle.figures.specs.declared.Running.{Running}
 use Rattle.figures.specs.Running.{running, RunningInRange}
-use Rattle.engines.specs.declared.Tests.{Tests}
 use Rattle.engines.specs.declared.Engines.{Engines}
-use Rattle.engines.specs.Engines.{testAt, testsTo, testedAt, testedTo, tested, ReworkInRange}
+use Rattle.engines.specs.Engines.{resultsOf, standardsOf, testedAt, testedTo, tested, testsTo, ReworkInRange}
 use Rattle.engines.proofs.Sized.{Sized}
 
-pub tests-length : (t : Tests) (n : ℕ) → length (testsTo t n) ≡ n
-tests-length t zero = refl
-tests-length t (suc n) = ap suc (tests-length t n)
+pub tests-length : (xs ts : List ℕ) (n : ℕ) → length (testsTo xs ts n) ≡ n
+tests-length xs ts zero = refl
+tests-length xs ts (suc n) = ap suc (tests-length xs ts n)
 
 pub tested-length : (e : Engines) (n : ℕ) → length (testedTo e n) ≡ n
 tested-length e zero = refl
 tested-length e (suc n) = ap suc (tested-length e n)
 
--- a pollutant's arrays, and that they say its history
-abbrev pub testsOf : Pollutant → Engines → Tests
-testsOf Hcnox e = e .hcnox
-testsOf Co e = e .co
-
-pub tested-history : (q : Pollutant) (e : Engines) (n : ℕ) → history q (testedTo e n) ≡ testsTo (testsOf q e) n
+-- a pollutant's arrays say its history
+pub tested-history : (q : Pollutant) (e : Engines) (n : ℕ) → history q (testedTo e n) ≡ testsTo (resultsOf q e) (standardsOf q e) n
 tested-history q e zero = refl
-tested-history Hcnox e (suc n) = ap (λ (h : List Test). testAt (e .hcnox) n ∷ h) (tested-history Hcnox e n)
-tested-history Co e (suc n) = ap (λ (h : List Test). testAt (e .co) n ∷ h) (tested-history Co e n)
+tested-history Hcnox e (suc n) = ap (λ (h : List Test). record { result = getD (e .«hcnox_results») n 0; standard = getD (e .«hcnox_standards») n 0 } ∷ h) (tested-history Hcnox e n)
+tested-history Co e (suc n) = ap (λ (h : List Test). record { result = getD (e .«co_results») n 0; standard = getD (e .«co_standards») n 0 } ∷ h) (tested-history Co e n)
 
 -- ranges hold of every earlier part
-pub tests-before : (t : Tests) (n i : ℕ) → i ≤ n → TestsInRange (testsTo t n) → TestsInRange (testsTo t i)
-tests-before t zero zero h r = r
-tests-before t zero (suc i) h r = absurd (omega arith)
-tests-before t (suc n) i h r = ⊎-elim (λ l. tests-before t n i l (r .2)) (λ e. rw e r) (le-suc-iff .0 h)
+pub tests-before : (xs ts : List ℕ) (n i : ℕ) → i ≤ n → TestsInRange (testsTo xs ts n) → TestsInRange (testsTo xs ts i)
+tests-before xs ts zero zero h r = r
+tests-before xs ts zero (suc i) h r = absurd (omega arith)
+tests-before xs ts (suc n) i h r = ⊎-elim (λ l. tests-before xs ts n i l (r .2)) (λ e. rw e r) (le-suc-iff .0 h)
 
 joined : {x y : Tested} {xs ys : List Tested} → x ≡ y → xs ≡ ys → x ∷ xs ≡ y ∷ ys
 joined p q = rw (p, q)
 
 -- one engine more at the next place: the engines before it are kept
 module _ (e : Engines) (number period : ℕ) (results standards : Pair) where
-  abbrev with-test : Tests → ℕ → ℕ → Tests
-  with-test t result standard = record { results = set (t .results) (e .count) result; standards = set (t .standards) (e .count) standard }
-
   abbrev pub with-engine : Engines
   with-engine =
       record {
         count = e .count + 1;
         numbers = set (e .numbers) (e .count) number;
         periods = set (e .periods) (e .count) period;
-        hcnox = with-test (e .hcnox) (results .hcnox) (standards .hcnox);
-        co = with-test (e .co) (results .co) (standards .co);
+        «hcnox_results» = set (e .«hcnox_results») (e .count) (results .hcnox);
+        «hcnox_standards» = set (e .«hcnox_standards») (e .count) (standards .hcnox);
+        «co_results» = set (e .«co_results») (e .count) (results .co);
+        «co_standards» = set (e .«co_standards») (e .count) (standards .co);
       }
 
   kept-at : (i : ℕ) → i < e .count → testedAt with-engine i ≡ testedAt e i
@@ -77,10 +71,10 @@ module _ (e : Engines) (number period : ℕ) (results standards : Pair) where
       rw (
         same (e .numbers) number (s .numbers),
         same (e .periods) period (s .periods),
-        same (e .hcnox .results) (results .hcnox) (s .hcnox .results),
-        same (e .hcnox .standards) (standards .hcnox) (s .hcnox .standards),
-        same (e .co .results) (results .co) (s .co .results),
-        same (e .co .standards) (standards .co) (s .co .standards),
+        same (e .«hcnox_results») (results .hcnox) (s .results Hcnox),
+        same (e .«hcnox_standards») (standards .hcnox) (s .standards Hcnox),
+        same (e .«co_results») (results .co) (s .results Co),
+        same (e .«co_standards») (standards .co) (s .standards Co),
       )
     where
       same : (l : List ℕ) (x : ℕ) → length l ≡ 40 → getD (set l (e .count) x) (e .count) 0 ≡ x
@@ -97,13 +91,15 @@ module _ (e : Engines) (number period : ℕ) (results standards : Pair) where
 
   -- a place written leaves the size
   pub with-engine-sized : Sized e → Sized with-engine
-  with-engine-sized s =
-      record {
-        numbers = rw length-set (s .numbers);
-        periods = rw length-set (s .periods);
-        hcnox = record { results = rw length-set (s .hcnox .results); standards = rw length-set (s .hcnox .standards) };
-        co = record { results = rw length-set (s .co .results); standards = rw length-set (s .co .standards) };
-      }
+  with-engine-sized s = record { numbers = rw length-set (s .numbers); periods = rw length-set (s .periods); results = results-kept; standards = standards-kept }
+    where
+      results-kept : (q : Pollutant) → length (resultsOf q with-engine) ≡ 40
+      results-kept Hcnox = rw length-set (s .results Hcnox)
+      results-kept Co = rw length-set (s .results Co)
+
+      standards-kept : (q : Pollutant) → length (standardsOf q with-engine) ≡ 40
+      standards-kept Hcnox = rw length-set (s .standards Hcnox)
+      standards-kept Co = rw length-set (s .standards Co)
 
 -- whether a number is among the first so many of a list
 abbrev pub among : List ℕ → ℕ → ℕ → Bool
@@ -127,13 +123,19 @@ module _ (numbers : List ℕ) (number i : ℕ) (h : 1 ≤ i) where
   among-passed f = sym (among-next numbers number i h ∙ rw (ne-eqb _ _ f))
 
 -- the room for the engine at a place, in figures worked from the arrays
-pub rework-room : (t : Tests) (count k i : ℕ) (f : Running) → ReworkInRange t count k → i < count → f ≡ running k (testsTo t i)
-    → RunningInRange k f (getD (t .results) i 0)
-rework-room t count k i f r h e =
-    record {
-      history = testsTo t i;
-      worked = e;
-      inRange = record { few = omega (arith, r .history .few, tests-length t i, tests-length t count); tests = tests-before t count i (omega arith) (r .history .tests) };
-      result = tests-before t count (suc i) h (r .history .tests) .0;
-      fine = r .fine;
-    }
+module _ (xs ts : List ℕ) (count k i : ℕ) (r : ReworkInRange xs ts count k) (h : i < count) where
+  pub rework-room : (f : Running) → f ≡ running k (testsTo xs ts i) → RunningInRange k f (getD xs i 0)
+  rework-room f e =
+      record {
+        history = testsTo xs ts i;
+        worked = e;
+        inRange = record {
+          few = omega (arith, r .history .few, tests-length xs ts i, tests-length xs ts count);
+          tests = tests-before xs ts count i (omega arith) (r .history .tests);
+        };
+        result = tests-before xs ts count (suc i) h (r .history .tests) .0;
+        fine = r .fine;
+      }
+
+  pub rework-le : (getD xs i 0 ≤ 20000) × (getD ts i 0 ≤ 20000)
+  rework-le = let t = tests-before xs ts count (suc i) h (r .history .tests) in (t .0, t .1)

@@ -1,40 +1,52 @@
--- An array of the struct has its 40 places: what the type of a parameter says of it.
+-- An array of the struct has its 40 places, and an engine number is below 65,536: what the type of a parameter says of it.
 -- Assumes nothing.
 use mathlib.Core.Path.{_≡_, sym, _∙_}
-use mathlib.Core.List.{List}
-use lib.ListN.{length, length-map}
+use mathlib.Core.List.{List, [], _∷_, map}
+use Prim.Native.Nat.{ℕ, zero, suc, _<_}
+use lib.Dec.{lit<}
+use lib.ListN.{length, getD, length-map}
+use mir.Syntax.{w16}
 use mir.Val.{Val}
+use denote.Plain.{UInt}
+use denote.Array.{each}
+use denote.Shadow.{shadow}
 use denote.Laws.{Is}
 use denote.Struct.Declared.{row}
-use Rattle.engines.specs.declared.Tests.{Tests}
+use Rattle.year.specs.Setup.{Pollutant, Hcnox, Co}
 use Rattle.engines.specs.declared.Engines.{Engines}
-use Rattle.engines.proofs.Tests as tests-type
+use Rattle.engines.specs.Engines.{resultsOf, standardsOf}
 use Rattle.engines.proofs.Engines as engines-type
-
-pub record SizedTests (t : Tests) : Type 0 where
-  pub results : length (t .results) ≡ 40
-  pub standards : length (t .standards) ≡ 40
 
 pub record Sized (e : Engines) : Type 0 where
   pub numbers : length (e .numbers) ≡ 40
   pub periods : length (e .periods) ≡ 40
-  pub hcnox : SizedTests (e .hcnox)
-  pub co : SizedTests (e .co)
+  pub results : (q : Pollutant) → length (resultsOf q e) ≡ 40
+  pub standards : (q : Pollutant) → length (standardsOf q e) ≡ 40
 
-pub sized-tests : (t : Tests) (vs : List Val) → Is (row tests-type.the-type) t vs → SizedTests t
-sized-tests t vs p =
-    let fields = p .1 .1 in
-    record {
-      results = sym (length-map (t .results) _) ∙ fields .0 .1 .0 .1;
-      standards = sym (length-map (t .standards) _) ∙ fields .1 .0 .1 .0 .1;
-    }
+-- each number of an array of u16 is below 65,536
+each-fits : (xs : List ℕ) (us : List Val) → shadow (each ℕ (UInt w16 .own) (map (λ v. v) xs) us) → (i : ℕ) → getD xs i 0 < 65536
+each-fits [] us p i = lit< tt
+each-fits (x ∷ xs) [] p i = absurd p
+each-fits (x ∷ xs) (u ∷ us) p zero = p .0 .1
+each-fits (x ∷ xs) (u ∷ us) p (suc i) = each-fits xs us (p .1) i
 
-pub sized : (e : Engines) (vs : List Val) → Is (row engines-type.the-type) e vs → Sized e
-sized e vs p =
-    let fields = p .1 .1 .1 in
-    record {
-      numbers = sym (length-map (e .numbers) _) ∙ fields .0 .1 .0 .1;
-      periods = sym (length-map (e .periods) _) ∙ fields .1 .0 .1 .0 .1;
-      hcnox = sized-tests (e .hcnox) _ (fields .1 .1 .0);
-      co = sized-tests (e .co) _ (fields .1 .1 .1 .0);
-    }
+module _ (e : Engines) (vs : List Val) (p : Is (row engines-type.the-type) e vs) where
+  results-sized : (q : Pollutant) → length (resultsOf q e) ≡ 40
+  results-sized Hcnox = sym (length-map (e .«hcnox_results») _) ∙ p .1 .1 .1 .1 .1 .0 .1 .0 .1
+  results-sized Co = sym (length-map (e .«co_results») _) ∙ p .1 .1 .1 .1 .1 .1 .1 .0 .1 .0 .1
+
+  standards-sized : (q : Pollutant) → length (standardsOf q e) ≡ 40
+  standards-sized Hcnox = sym (length-map (e .«hcnox_standards») _) ∙ p .1 .1 .1 .1 .1 .1 .0 .1 .0 .1
+  standards-sized Co = sym (length-map (e .«co_standards») _) ∙ p .1 .1 .1 .1 .1 .1 .1 .1 .0 .1 .0 .1
+
+  pub sized : Sized e
+  sized =
+      record {
+        numbers = sym (length-map (e .numbers) _) ∙ p .1 .1 .1 .0 .1 .0 .1;
+        periods = sym (length-map (e .periods) _) ∙ p .1 .1 .1 .1 .0 .1 .0 .1;
+        results = results-sized;
+        standards = standards-sized;
+      }
+
+  pub number-fits : (i : ℕ) → getD (e .numbers) i 0 < 65536
+  number-fits = let n = p .1 .1 .1 .0 in each-fits (e .numbers) (n .0) (n .1 .1)

@@ -1,33 +1,35 @@
 -- What the arrays of tested engines say, in the words of the definitions: the list of tested engines, the newest first.
 -- Assumes nothing.
 use mathlib.Core.List.{List, [], _∷_}
-use Prim.Native.Nat.{ℕ, zero, suc, _≤_}
+use Prim.Native.Nat.{ℕ, zero, suc, _≤_, _<_}
 use lib.ListN.{getD}
 use Rattle.statistics.specs.Spread.{Test}
 use Rattle.statistics.specs.Ranges.{HistoryInRange}
+use Rattle.year.specs.declared.Pair.{Pair}
+use Rattle.year.specs.Setup.{Pollutant, Hcnox, Co, of}
 use Rattle.year.specs.Replay.{Tested}
-use Rattle.engines.specs.declared.Tests.{Tests}
 use Rattle.engines.specs.declared.Engines.{Engines}
 
--- the engine at a place, as one pollutant sees it
-abbrev pub testAt : Tests → ℕ → Test
-testAt t i = record { result = getD (t .results) i 0; standard = getD (t .standards) i 0 }
+-- a pollutant's arrays
+abbrev pub resultsOf : Pollutant → Engines → List ℕ
+resultsOf Hcnox e = e .«hcnox_results»
+resultsOf Co e = e .«co_results»
 
--- the engines before a place, the newest first
-abbrev pub testsTo : Tests → ℕ → List Test
-testsTo t zero = []
-testsTo t (suc i) = testAt t i ∷ testsTo t i
+abbrev pub standardsOf : Pollutant → Engines → List ℕ
+standardsOf Hcnox e = e .«hcnox_standards»
+standardsOf Co e = e .«co_standards»
 
--- the same with everything that is known of an engine
+-- the engine at a place
 abbrev pub testedAt : Engines → ℕ → Tested
 testedAt e i =
     record {
       number = getD (e .numbers) i 0;
-      results = record { hcnox = testAt (e .hcnox) i .result; co = testAt (e .co) i .result };
-      standards = record { hcnox = testAt (e .hcnox) i .standard; co = testAt (e .co) i .standard };
+      results = record { hcnox = getD (e .«hcnox_results») i 0; co = getD (e .«co_results») i 0 };
+      standards = record { hcnox = getD (e .«hcnox_standards») i 0; co = getD (e .«co_standards») i 0 };
       period = getD (e .periods) i 0;
     }
 
+-- the engines before a place, the newest first
 abbrev pub testedTo : Engines → ℕ → List Tested
 testedTo e zero = []
 testedTo e (suc i) = testedAt e i ∷ testedTo e i
@@ -35,7 +37,20 @@ testedTo e (suc i) = testedAt e i ∷ testedTo e i
 abbrev pub tested : Engines → List Tested
 tested e = testedTo e (e .count)
 
+-- the engines before a place of one pollutant's arrays
+abbrev pub testsTo : List ℕ → List ℕ → ℕ → List Test
+testsTo results standards zero = []
+testsTo results standards (suc i) = record { result = getD results i 0; standard = getD standards i 0 } ∷ testsTo results standards i
+
+-- for one engine more: there is a place, and each number fits its array
+pub record EngineInRange (e : Engines) (number : ℕ) (results standards : Pair) (period : ℕ) : Type 0 where
+  pub place : e .count < 40
+  pub numbered : number ≤ 65535
+  pub resulted : (q : Pollutant) → of q results ≤ 20000
+  pub standing : (q : Pollutant) → of q standards ≤ 20000
+  pub counted : period ≤ 4
+
 -- for figures worked from the arrays: up to 40 engines in range, at a resolution of up to 8 × 1,024
-pub record ReworkInRange (t : Tests) (count k : ℕ) : Type 0 where
-  pub history : HistoryInRange 40 (testsTo t count)
+pub record ReworkInRange (results standards : List ℕ) (count k : ℕ) : Type 0 where
+  pub history : HistoryInRange 40 (testsTo results standards count)
   pub fine : k ≤ 8192

@@ -4,17 +4,14 @@ pub mod rework;
 pub mod store;
 pub mod summary;
 
-// One pollutant of the tested engines: each result, and the standard in force when its engine was entered.
-pub struct Tests {
-    pub results: [u32; 40],
-    pub standards: [u32; 40],
-}
-
-// The tested engines; places from `count` on are not in use.
+// Each engine's number and period, and for each pollutant its result and the standard in force when it was entered. Places from `count` on are not in use.
+// The elements are as narrow as their ranges allow, since the whole is carried by value from event to event.
 pub struct Engines {
     pub count: usize,
-    pub numbers: [u32; 40],
-    pub periods: [u32; 40],
-    pub hcnox: Tests,
-    pub co: Tests,
+    pub numbers: [u16; 40],
+    pub periods: [u8; 40],
+    pub hcnox_results: [u16; 40],
+    pub hcnox_standards: [u16; 40],
+    pub co_results: [u16; 40],
+    pub co_standards: [u16; 40],
 }

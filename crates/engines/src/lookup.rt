@@ -13,7 +13,7 @@ pub fn is_tested(e: Engines, number: u32) -> bool
     let mut i = e.count;
     while 0 < i {
         i -= 1;
-        if numbers[i] == number {
+        if numbers[i] as u32 == number {
             return true;
         }
     }

@@ -13,12 +13,12 @@ use Rattle.year.specs.Setup.{Pollutant, Hcnox, Co, of}
 use Rattle.year.specs.Replay.{history}
 use Rattle.year.specs.Admissible.{admissible}
 use Rattle.year.proofs.Replayed.{history-length}
-use Rattle.year.proofs.Ranges.{tested-in-le, engine-room, engine-results}
+use Rattle.year.proofs.Ranges.{standard-le, tested-in-le, engine-number, engine-room, engine-results}
 use Rattle.figures.specs.declared.Running.{Running}
 use Rattle.figures.specs.Running.{running, RunningInRange}
 use Rattle.figures.proofs.OneMore.{running-size}
-use Rattle.engines.specs.Engines.{testsTo, tested, ReworkInRange}
-use Rattle.engines.proofs.Arrays.{testsOf, tested-length, tested-history}
+use Rattle.engines.specs.Engines.{resultsOf, standardsOf, tested, testsTo, EngineInRange, ReworkInRange}
+use Rattle.engines.proofs.Arrays.{tested-length, tested-history}
 use Rattle.progress.specs.declared.Progress.{Progress as State}
 use Rattle.progress.specs.State.{shown, Consistent}
 use borrow.Author.Tests.{leb-true}
@@ -55,13 +55,13 @@ module _ (p : State) (c : Consistent p) where
     undecided-is = ap (λ (f : Running). f .undecided) (carried q)
 
     -- the figures worked from the arrays at a resolution: the ranges are met, and they are the year's
-    pub rework-fits : (k : ℕ) → k ≤ 8192 → ReworkInRange (testsOf q (p .engines)) (p .engines .count) k
+    pub rework-fits : (k : ℕ) → k ≤ 8192 → ReworkInRange (resultsOf q (p .engines)) (standardsOf q (p .engines)) (p .engines .count) k
     rework-fits k fine = record { history = rw (← tested-history q (p .engines) (p .engines .count)) (c .inRange .histories q); fine = fine }
 
-    pub reworked : (k : ℕ) (f : Running) → f ≡ running k (testsTo (testsOf q (p .engines)) (p .engines .count)) → f ≡ running k (history q (tested (p .engines)))
+    pub reworked : (k : ℕ) (f : Running) → f ≡ running k (testsTo (resultsOf q (p .engines)) (standardsOf q (p .engines)) (p .engines .count)) → f ≡ running k (history q (tested (p .engines)))
     reworked k f e = e ∙ ap (running k) (sym (tested-history q (p .engines) (p .engines .count)))
 
-    pub rework-size : (k : ℕ) (f : Running) → f ≡ running k (testsTo (testsOf q (p .engines)) (p .engines .count))
+    pub rework-size : (k : ℕ) (f : Running) → f ≡ running k (testsTo (resultsOf q (p .engines)) (standardsOf q (p .engines)) (p .engines .count))
         → SizeInRange (f .sums .n) (f .sums .total) (f .standard) (f .sums .variation)
     rework-size k f e = running-size k f (history q (tested (p .engines))) (reworked k f e) (c .inRange .histories q)
 
@@ -69,6 +69,16 @@ module _ (p : State) (c : Consistent p) where
   module _ (number readings : ℕ) (results : Pair) (h : admissible (shown p) (Engine number readings results) ≡ true) where
     pub place : p .engines .count < 40
     place = omega (arith, engine-room (shown p) number readings results h, counted)
+
+    pub engine-fits : EngineInRange (p .engines) number results (p .standards) (p .period)
+    engine-fits =
+        record {
+          place = place;
+          numbered = engine-number (shown p) number readings results h;
+          resulted = λ q. leb-true _ _ (engine-results (shown p) number readings results h q);
+          standing = standard-le (p .standards) (c .inRange .standards);
+          counted = c .inRange .period;
+        }
 
     pub add-fits : (q : Pollutant) → RunningInRange 1024 (figuresOf q p) (of q results)
     add-fits q =

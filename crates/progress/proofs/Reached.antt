@@ -4,17 +4,18 @@ use mathlib.Core.Path.{_≡_, refl, sym, subst}
 use mathlib.Core.Bool.{true}
 use mathlib.Core.List.{List, [], _∷_}
 use Prim.Native.Nat.{ℕ}
-use lib.ListN.{replicate}
+use lib.ListN.{length, replicate}
 use Rattle.year.specs.declared.Setup.{Setup}
 use Rattle.year.specs.declared.Event.{Event}
 use Rattle.year.specs.declared.Event.the-variants.{Engine, Amendment, NextPeriod, Declaration}
+use Rattle.year.specs.Setup.{Pollutant, Hcnox, Co}
 use Rattle.year.specs.Replay.{Progress, after, replay}
 use Rattle.year.specs.Admissible.{admissible, valid}
 use Rattle.year.proofs.Valid.{valid-before, valid-newest}
 use Rattle.figures.specs.Running.{running}
-use Rattle.engines.specs.declared.Tests.{Tests}
 use Rattle.engines.specs.declared.Engines.{Engines}
-use Rattle.engines.proofs.Sized.{SizedTests, Sized}
+use Rattle.engines.specs.Engines.{resultsOf, standardsOf}
+use Rattle.engines.proofs.Sized.{Sized}
 use Rattle.engines.proofs.Arrays.{with-engine, with-engine-sized, tested-next}
 use Rattle.progress.specs.declared.Progress.{Progress as State}
 use Rattle.progress.specs.State.{shown, Consistent}
@@ -30,21 +31,35 @@ pub record Reached (y : Progress) : Type 0 where
 abbrev zeros : List ℕ
 zeros = replicate 40 0
 
-abbrev noTests : Tests
-noTests = record { results = zeros; standards = zeros }
-
 abbrev noEngines : Engines
-noEngines = record { count = 0; numbers = zeros; periods = zeros; hcnox = noTests; co = noTests }
+noEngines =
+    record {
+      count = 0;
+      numbers = zeros;
+      periods = zeros;
+      «hcnox_results» = zeros;
+      «hcnox_standards» = zeros;
+      «co_results» = zeros;
+      «co_standards» = zeros;
+    }
 
-sizedTests : SizedTests noTests
-sizedTests = record { results = refl; standards = refl }
+all-sized : Sized noEngines
+all-sized = record { numbers = refl; periods = refl; results = results-sized; standards = standards-sized }
+  where
+    results-sized : (q : Pollutant) → length (resultsOf q noEngines) ≡ 40
+    results-sized Hcnox = refl
+    results-sized Co = refl
+
+    standards-sized : (q : Pollutant) → length (standardsOf q noEngines) ≡ 40
+    standards-sized Hcnox = refl
+    standards-sized Co = refl
 
 from-start : (s : Setup) → valid s [] ≡ true → Reached (replay s [])
 from-start s h =
     record {
       state = _;
       stands = started s noEngines (running 1024 []) (running 1024 []) h refl refl refl;
-      sized = record { numbers = refl; periods = refl; hcnox = sizedTests; co = sizedTests };
+      sized = all-sized;
     }
 
 -- one event more from a state that stands for the year

@@ -101,12 +101,14 @@ pub fn work(setup: Setup, numbers: &[u32], resolution: u64) -> Worked {
     let p = enter_all(setup, numbers);
     let k = at_most(resolution, 8192);
     let engines = p.engines;
-    let hcnox = engines.hcnox;
-    let co = engines.co;
+    let hcnox_results = engines.hcnox_results;
+    let hcnox_standards = engines.hcnox_standards;
+    let co_results = engines.co_results;
+    let co_standards = engines.co_standards;
     Worked::Year {
         stored: p.stored,
         status: status_of(p),
-        hcnox: figures_of(running_at(hcnox, engines.count, k)),
-        co: figures_of(running_at(co, engines.count, k)),
+        hcnox: figures_of(running_at(hcnox_results, hcnox_standards, engines.count, k)),
+        co: figures_of(running_at(co_results, co_standards, engines.count, k)),
     }
 }

@@ -88,6 +88,14 @@ module _ (p : Progress) (number readings : ℕ) (results : Pair) (h : admissible
   named : Bool
   named = numberInRange number && not (isTested number (p .tested)) && countInRange readings
 
+  pub engine-number : number ≤ 65535
+  unfolding named
+  engine-number =
+      leb-true _ 65535 (right (leb 1 number) (leb number 65535)
+      (left (numberInRange number) (not (isTested number (p .tested)))
+      (left (numberInRange number && not (isTested number (p .tested))) (countInRange readings)
+      (left named (resultsInRange results) (left (named && resultsInRange results) (not (enginesFull p)) (fitting p (Engine number readings results) h))))))
+
   pub engine-room : length (p .tested) < 40
   unfolding named
   engine-room =

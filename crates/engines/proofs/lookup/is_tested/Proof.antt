@@ -2,6 +2,7 @@
 use mathlib.Core.Path.{_≡_, refl, sym, _∙_}
 use Prim.Native.Nat.{_-_, _≤_}
 use native.Mathlib.Omega.{arith}
+use Rattle.engines.proofs.Sized.{number-fits}
 use Rattle.engines.proofs.Arrays.{among, among-found, among-passed, tested-among}
 use Rattle.engines.proofs.lookup.is_tested.Statement.{statement}
 use Rattle.engines.proofs.lookup.is_tested.Tie as tie
@@ -23,6 +24,9 @@ mul-if1 c = omega arith
 
 array-read-if1 : tie.Need-array-read-if1 Inv-loop μ-loop
 array-read-if1 c = omega arith
+
+cast-if1 : tie.Need-cast-if1 Inv-loop μ-loop
+cast-if1 c = let s = c .before .before .before in omega (arith, number-fits (s .args .e) _ (s .good .0) (c .before .loop .i - 1))
 
 returns : tie.Need-returns Inv-loop μ-loop
 returns c =
@@ -57,6 +61,7 @@ is-tested-spec =
     sub-i
     mul-if1
     array-read-if1
+    cast-if1
     returns
     loop-less
     loop-again

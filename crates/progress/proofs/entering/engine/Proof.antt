@@ -3,7 +3,7 @@ use native.Mathlib.Omega.{arith}
 use Rattle.year.specs.Setup.{Hcnox, Co}
 use Rattle.year.specs.Replay.{history}
 use Rattle.engines.specs.Engines.{tested}
-use Rattle.progress.proofs.Carried.{current-le, place, add-fits, carried}
+use Rattle.progress.proofs.Carried.{current-le, engine-fits, add-fits, carried}
 use Rattle.progress.proofs.Steps.{engine}
 use borrow.Author.Needs.{needs}
 use Rattle.progress.proofs.entering.engine.Statement.{statement}
@@ -12,7 +12,7 @@ use Rattle.progress.proofs.entering.engine.Tie as tie
 with-engine-requires : tie.Need-with-engine-requires
 with-engine-requires c κs =
     let s = c .before .before .before .before .before in
-    place (s .args .p) (s .pre .0) (s .args .number) (s .args .readings) (s .args .results) (s .pre .1)
+    engine-fits (s .args .p) (s .pre .0) (s .args .number) (s .args .readings) (s .args .results) (s .pre .1)
 
 add-t11 : tie.Need-add-t11
 add-t11 c = search needs

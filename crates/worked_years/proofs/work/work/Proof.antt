@@ -24,22 +24,22 @@ status-of-requires c κs = search needs
 
 running-at-requires : tie.Need-running-at-requires
 running-at-requires c κs =
-    let e = c .before .before .before .before in
+    let e = c .before .before .before .before .before .before in
     rework-fits (e .before .enter-all .result) (e .before .enter-all .ensures) Hcnox (e .at-most .result) (e .at-most .ensures)
 
 figures-of-requires : tie.Need-figures-of-requires
 figures-of-requires c κs =
-    let e = c .before .before .before .before .before in
+    let e = c .before .before .before .before .before .before .before in
     rework-size (e .before .enter-all .result) (e .before .enter-all .ensures) Hcnox (e .at-most .result) (c .running-at .result) (c .running-at .ensures)
 
 running-at-requires-2 : tie.Need-running-at-requires-2
 running-at-requires-2 c κs =
-    let e = c .before .before .before .before .before .before in
+    let e = c .before .before .before .before .before .before .before .before in
     rework-fits (e .before .enter-all .result) (e .before .enter-all .ensures) Co (e .at-most .result) (e .at-most .ensures)
 
 figures-of-requires-2 : tie.Need-figures-of-requires-2
 figures-of-requires-2 c κs =
-    let e = c .before .before .before .before .before .before .before in
+    let e = c .before .before .before .before .before .before .before .before .before in
     rework-size (e .before .enter-all .result) (e .before .enter-all .ensures) Co (e .at-most .result) (c .running-at2 .result) (c .running-at2 .ensures)
 
 returns-2 : tie.Need-returns-2
