@@ -178,6 +178,81 @@ pub fn starred_years() {
     year_by_year(setup_of(1500, 1000, 6100), &equal, 1024);
 }
 
+// The verdicts that the printed run does not reach, and a deviation that is exact: marks '-', '?', 'O', which finer work settles; n equal to N; one percent of
+// 150; results 100, 200, 300; and the next period where there is none.
+pub fn other_verdicts() {
+    let undecided = [
+        1u32,
+        1,
+        1,
+        998,
+        5000,
+        1,
+        2,
+        1,
+        1071,
+        5000,
+        1,
+        3,
+        1,
+        926,
+        5000,
+    ];
+    text(b"undecided\n");
+    year_by_year(setup_of(5000, 800, 6100), &undecided, 8192);
+    let at_n = [
+        1u32,
+        1,
+        1,
+        23,
+        5000,
+        1,
+        2,
+        1,
+        23,
+        5000,
+        1,
+        3,
+        1,
+        83,
+        5000,
+        1,
+        4,
+        1,
+        83,
+        5000,
+    ];
+    text(b"at N\n");
+    year_by_year(setup_of(5000, 100, 6100), &at_n, 1024);
+    let equal = [1u32, 1, 1, 1000, 5000, 1, 2, 1, 1000, 5000];
+    text(b"one percent\n");
+    year_by_year(setup_of(150, 1000, 6100), &equal, 1024);
+    let exact = [
+        1u32,
+        1,
+        1,
+        100,
+        5000,
+        1,
+        2,
+        1,
+        200,
+        5000,
+        1,
+        3,
+        1,
+        300,
+        5000,
+        3,
+        0,
+        0,
+        0,
+        0,
+    ];
+    text(b"exact\n");
+    year_by_year(setup_of(1500, 300, 6100), &exact, 8192);
+}
+
 // Amendments, periods and refused events: a number twice, a period while short, no reading, a result above 20,000.
 pub fn amended() {
     let events = [
@@ -273,6 +348,27 @@ fn put_engines(events: &mut [u32])
     while i < 41 {
         put_engine(events, 5 * i, i as u32);
         i += 1;
+    }
+}
+
+// Sixty-five amendments and a declaration: only sixty-four events have a place.
+pub fn many_events() {
+    let mut events = [0u32; 330];
+    put_amendments(&mut events);
+    events[325] = 4;
+    text(b"many events\n");
+    year(setup_of(5000, 800, 6100), &events, 1024);
+}
+
+fn put_amendments(events: &mut [u32])
+    requires { ⌜ length (now events) ≡ 330 ⌝ }
+{
+    let mut at: usize = 0;
+    while at < 325 {
+        events[at] = 2;
+        events[at + 1] = 10;
+        events[at + 2] = 20000;
+        at += 5;
     }
 }
 

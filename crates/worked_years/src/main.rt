@@ -9,7 +9,9 @@ fn main() {
     cases::schedules();
     cases::printed_run();
     cases::starred_years();
+    cases::other_verdicts();
     cases::amended();
+    cases::many_events();
     cases::largest(20000, 20000);
     cases::largest(10, 20000);
     cases::largest_amended();
