@@ -1,6 +1,6 @@
 // The cases, in the order of document 01.
 ghost use mathlib.Core.Path.{_≡_};
-ghost use Prim.Native.Nat.{_+_, _≤_, _<_};
+ghost use Prim.Native.Nat.{_+_, _*_, _≤_};
 ghost use lib.ListN.{length};
 use crate::lines::end;
 use crate::lines::figures;
@@ -111,217 +111,120 @@ pub fn schedules() {
     end();
 }
 
+// Event i of a list, five numbers long: its kind, and what work.rt reads after it.
+fn event(events: &mut [u32], i: usize, kind: u32, first: u32, second: u32)
+    requires { ⌜ 5 * i + 5 ≤ length (now events) ⌝ }
+{
+    let at = 5 * i;
+    events[at] = kind;
+    events[at + 1] = first;
+    events[at + 2] = second;
+}
+
+// An engine: its number, how many readings it had for each pollutant, and its results.
+fn engine(events: &mut [u32], i: usize, number: u32, readings: u32, hcnox: u32, co: u32)
+    requires { ⌜ 5 * i + 5 ≤ length (now events) ⌝ }
+{
+    event(events, i, 1, number, readings);
+    let at = 5 * i;
+    events[at + 3] = hcnox;
+    events[at + 4] = co;
+}
+
 // Document 01's whole run. The last engine comes after the declaration.
 pub fn printed_run() {
-    let events = [
-        1u32,
-        1,
-        1,
-        998,
-        5000,
-        1,
-        2,
-        1,
-        1071,
-        5000,
-        1,
-        3,
-        1,
-        900,
-        5000,
-        4,
-        0,
-        0,
-        0,
-        0,
-        1,
-        4,
-        1,
-        0,
-        0,
-    ];
+    let mut events = [0u32; 25];
+    engine(&mut events, 0, 1, 1, 998, 5000);
+    engine(&mut events, 1, 2, 1, 1071, 5000);
+    engine(&mut events, 2, 3, 1, 900, 5000);
+    event(&mut events, 3, 4, 0, 0);
+    engine(&mut events, 4, 4, 1, 0, 0);
     text(b"run\n");
     year_by_year(setup_of(5000, 800, 6100), &events, 8192);
 }
 
-// T 100, X 500 three times, and a fourth after the failure; T 1,000, X 800 twice and X 1,000 twice, P 1,500.
-pub fn starred_years() {
-    let three = [
-        1u32,
-        1,
-        1,
-        500,
-        5000,
-        1,
-        2,
-        1,
-        500,
-        5000,
-        1,
-        3,
-        1,
-        500,
-        5000,
-        1,
-        4,
-        1,
-        500,
-        5000,
-    ];
+// T 100, X 500 three times, and a fourth after the failure.
+pub fn failed() {
+    let mut events = [0u32; 20];
+    engine(&mut events, 0, 1, 1, 500, 5000);
+    engine(&mut events, 1, 2, 1, 500, 5000);
+    engine(&mut events, 2, 3, 1, 500, 5000);
+    engine(&mut events, 3, 4, 1, 500, 5000);
     text(b"failed\n");
-    year_by_year(setup_of(5000, 100, 6100), &three, 1024);
-    let low = [1u32, 1, 1, 800, 5000, 1, 2, 1, 800, 5000];
+    year_by_year(setup_of(5000, 100, 6100), &events, 1024);
+}
+
+// The same result twice.
+fn twice(volume: u32, standard: u32, result: u32) {
+    let mut events = [0u32; 10];
+    engine(&mut events, 0, 1, 1, result, 5000);
+    engine(&mut events, 1, 2, 1, result, 5000);
+    year_by_year(setup_of(volume, standard, 6100), &events, 1024);
+}
+
+// T 1,000, X 800 twice and X 1,000 twice, P 1,500.
+pub fn sizes() {
     text(b"reached\n");
-    year_by_year(setup_of(1500, 1000, 6100), &low, 1024);
-    let equal = [1u32, 1, 1, 1000, 5000, 1, 2, 1, 1000, 5000];
+    twice(1500, 1000, 800);
     text(b"no size\n");
-    year_by_year(setup_of(1500, 1000, 6100), &equal, 1024);
+    twice(1500, 1000, 1000);
 }
 
-// The verdicts that the printed run does not reach, and a deviation that is exact: marks '-', '?', 'O', which finer work settles; n equal to N; one percent of
-// 150; results 100, 200, 300; and the next period where there is none.
-pub fn other_verdicts() {
-    let undecided = [
-        1u32,
-        1,
-        1,
-        998,
-        5000,
-        1,
-        2,
-        1,
-        1071,
-        5000,
-        1,
-        3,
-        1,
-        926,
-        5000,
-    ];
+// Marks '-', '?', 'O': verdict 5, which finer work settles.
+pub fn undecided() {
+    let mut events = [0u32; 15];
+    engine(&mut events, 0, 1, 1, 998, 5000);
+    engine(&mut events, 1, 2, 1, 1071, 5000);
+    engine(&mut events, 2, 3, 1, 926, 5000);
     text(b"undecided\n");
-    year_by_year(setup_of(5000, 800, 6100), &undecided, 8192);
-    let at_n = [
-        1u32,
-        1,
-        1,
-        23,
-        5000,
-        1,
-        2,
-        1,
-        23,
-        5000,
-        1,
-        3,
-        1,
-        83,
-        5000,
-        1,
-        4,
-        1,
-        83,
-        5000,
-    ];
-    text(b"at N\n");
-    year_by_year(setup_of(5000, 100, 6100), &at_n, 1024);
-    let equal = [1u32, 1, 1, 1000, 5000, 1, 2, 1, 1000, 5000];
-    text(b"one percent\n");
-    year_by_year(setup_of(150, 1000, 6100), &equal, 1024);
-    let exact = [
-        1u32,
-        1,
-        1,
-        100,
-        5000,
-        1,
-        2,
-        1,
-        200,
-        5000,
-        1,
-        3,
-        1,
-        300,
-        5000,
-        3,
-        0,
-        0,
-        0,
-        0,
-    ];
-    text(b"exact\n");
-    year_by_year(setup_of(1500, 300, 6100), &exact, 8192);
+    year_by_year(setup_of(5000, 800, 6100), &events, 8192);
 }
 
-// Amendments, periods and refused events: a number twice, a period while short, no reading, a result above 20,000.
+// N is exactly 4 at n = 4, which is no stop.
+pub fn at_n() {
+    let mut events = [0u32; 20];
+    engine(&mut events, 0, 1, 1, 23, 5000);
+    engine(&mut events, 1, 2, 1, 23, 5000);
+    engine(&mut events, 2, 3, 1, 83, 5000);
+    engine(&mut events, 3, 4, 1, 83, 5000);
+    text(b"at N\n");
+    year_by_year(setup_of(5000, 100, 6100), &events, 1024);
+}
+
+// One percent of 150 is 2: verdict 4.
+pub fn percent() {
+    text(b"one percent\n");
+    twice(150, 1000, 1000);
+}
+
+// A deviation that is exact, and the next period where there is none.
+pub fn exact() {
+    let mut events = [0u32; 20];
+    engine(&mut events, 0, 1, 1, 100, 5000);
+    engine(&mut events, 1, 2, 1, 200, 5000);
+    engine(&mut events, 2, 3, 1, 300, 5000);
+    event(&mut events, 3, 3, 0, 0);
+    text(b"exact\n");
+    year_by_year(setup_of(1500, 300, 6100), &events, 8192);
+}
+
+// Amendments and periods, and events that could not be entered: a period while short, a number twice, a standard that is no multiple of ten, no reading, a
+// result above 20,000, number 0.
 pub fn amended() {
-    let events = [
-        3u32,
-        0,
-        0,
-        0,
-        0,
-        1,
-        1,
-        3,
-        998,
-        5000,
-        1,
-        1,
-        1,
-        900,
-        5000,
-        2,
-        700,
-        6100,
-        0,
-        0,
-        2,
-        705,
-        6100,
-        0,
-        0,
-        1,
-        2,
-        1,
-        900,
-        5000,
-        3,
-        0,
-        0,
-        0,
-        0,
-        3,
-        0,
-        0,
-        0,
-        0,
-        1,
-        3,
-        0,
-        900,
-        5000,
-        1,
-        3,
-        1,
-        900,
-        20001,
-        1,
-        0,
-        1,
-        900,
-        5000,
-        1,
-        65535,
-        1,
-        950,
-        6000,
-        3,
-        0,
-        0,
-        0,
-        0,
-    ];
+    let mut events = [0u32; 65];
+    event(&mut events, 0, 3, 0, 0);
+    engine(&mut events, 1, 1, 3, 998, 5000);
+    engine(&mut events, 2, 1, 1, 900, 5000);
+    event(&mut events, 3, 2, 700, 6100);
+    event(&mut events, 4, 2, 705, 6100);
+    engine(&mut events, 5, 2, 1, 900, 5000);
+    event(&mut events, 6, 3, 0, 0);
+    event(&mut events, 7, 3, 0, 0);
+    engine(&mut events, 8, 3, 0, 900, 5000);
+    engine(&mut events, 9, 3, 1, 900, 20001);
+    engine(&mut events, 10, 0, 1, 900, 5000);
+    engine(&mut events, 11, 65535, 1, 950, 6000);
+    event(&mut events, 12, 3, 0, 0);
     text(b"amended\n");
     year_by_year(setup_of(5000, 800, 6100), &events, 2048);
     text(b"out of range\n");
@@ -329,24 +232,12 @@ pub fn amended() {
     year(setup_of(5000, 805, 6100), &events, 1024);
 }
 
-// Engine i + 1 at 0 or 20,000, CO the other way round, from a place on.
-fn put_engine(events: &mut [u32], at: usize, i: u32)
-    requires { ⌜ (at + 5 ≤ length (now events)) × (i < 41) ⌝ }
-{
-    let high = 20000 * (i % 2);
-    events[at] = 1;
-    events[at + 1] = i + 1;
-    events[at + 2] = 3;
-    events[at + 3] = high;
-    events[at + 4] = 20000 - high;
-}
-
-fn put_engines(events: &mut [u32])
-    requires { ⌜ length (now events) ≡ 205 ⌝ }
+fn put_amendments(events: &mut [u32])
+    requires { ⌜ length (now events) ≡ 330 ⌝ }
 {
     let mut i: usize = 0;
-    while i < 41 {
-        put_engine(events, 5 * i, i as u32);
+    while i < 65 {
+        event(events, i, 2, 10, 20000);
         i += 1;
     }
 }
@@ -355,20 +246,20 @@ fn put_engines(events: &mut [u32])
 pub fn many_events() {
     let mut events = [0u32; 330];
     put_amendments(&mut events);
-    events[325] = 4;
+    event(&mut events, 65, 4, 0, 0);
     text(b"many events\n");
     year(setup_of(5000, 800, 6100), &events, 1024);
 }
 
-fn put_amendments(events: &mut [u32])
-    requires { ⌜ length (now events) ≡ 330 ⌝ }
+// Forty-one engines of three readings at 0 and 20,000 alternating, CO the other way round.
+fn put_engines(events: &mut [u32])
+    requires { ⌜ length (now events) ≡ 205 ⌝ }
 {
-    let mut at: usize = 0;
-    while at < 325 {
-        events[at] = 2;
-        events[at + 1] = 10;
-        events[at + 2] = 20000;
-        at += 5;
+    let mut i: usize = 0;
+    while i < 41 {
+        let high = 20000 * ((i % 2) as u32);
+        engine(events, i, (i as u32) + 1, 3, high, 20000 - high);
+        i += 1;
     }
 }
 
@@ -384,9 +275,7 @@ pub fn largest(hcnox: u32, co: u32) {
 pub fn largest_amended() {
     let mut events = [0u32; 205];
     put_engines(&mut events);
-    events[190] = 2;
-    events[191] = 10;
-    events[192] = 10;
+    event(&mut events, 38, 2, 10, 10);
     text(b"largest, amended\n");
     year_by_year(setup_of(99999999, 20000, 20000), &events, 8192);
 }

@@ -8,8 +8,12 @@ fn main() {
     cases::rounding();
     cases::schedules();
     cases::printed_run();
-    cases::starred_years();
-    cases::other_verdicts();
+    cases::failed();
+    cases::sizes();
+    cases::undecided();
+    cases::at_n();
+    cases::percent();
+    cases::exact();
     cases::amended();
     cases::many_events();
     cases::largest(20000, 20000);

@@ -2,51 +2,30 @@
 use mathlib.Core.Path.{_≡_}
 use Prim.Native.Nat.{_-_, _≤_}
 use native.Mathlib.Omega.{arith}
-use lib.ListN.{length, length-set}
+use lib.ListN.{length}
 use Rattle.worked_years.proofs.cases.put_amendments.Statement.{statement}
 use Rattle.worked_years.proofs.cases.put_amendments.Tie as tie
 
 abbrev Inv-loop : tie.InvT-loop
-Inv-loop events₀ at₀ events at = (length events ≡ 330) × (at ≤ 329)
+Inv-loop events₀ i₀ events i = (length events ≡ 330) × (i ≤ 65)
 
 abbrev μ-loop : tie.MeasureT-loop
-μ-loop events₀ at₀ events at = 329 - at
+μ-loop events₀ i₀ events i = 65 - i
 
 loop-holds : tie.Need-loop-holds Inv-loop μ-loop
 loop-holds c = omega arith
 
-mul-events : tie.Need-mul-events Inv-loop μ-loop
-mul-events c = omega arith
+event-requires : tie.Need-event-requires Inv-loop μ-loop
+event-requires c κs = omega arith
 
-slice-write-events : tie.Need-slice-write-events Inv-loop μ-loop
-slice-write-events c = omega arith
-
-add-events : tie.Need-add-events Inv-loop μ-loop
-add-events c = omega arith
-
-mul-events-2 : tie.Need-mul-events-2 Inv-loop μ-loop
-mul-events-2 c = omega arith
-
-slice-write-events-2 : tie.Need-slice-write-events-2 Inv-loop μ-loop
-slice-write-events-2 c = simp length-set (omega arith)
-
-add-events-2 : tie.Need-add-events-2 Inv-loop μ-loop
-add-events-2 c = omega arith
-
-mul-events-3 : tie.Need-mul-events-3 Inv-loop μ-loop
-mul-events-3 c = omega arith
-
-slice-write-events-3 : tie.Need-slice-write-events-3 Inv-loop μ-loop
-slice-write-events-3 c = simp length-set (omega arith)
-
-add-at : tie.Need-add-at Inv-loop μ-loop
-add-at c = omega arith
+add-i : tie.Need-add-i Inv-loop μ-loop
+add-i c = omega arith
 
 loop-less : tie.Need-loop-less Inv-loop μ-loop
 loop-less c = omega arith
 
 loop-again : tie.Need-loop-again Inv-loop μ-loop
-loop-again c = simp length-set (omega arith)
+loop-again c = omega (arith, c .before .before .event .kept)
 
 same-length : tie.Need-same-length Inv-loop μ-loop
 same-length c = omega arith
@@ -61,15 +40,8 @@ put-amendments-spec =
     Inv-loop
     μ-loop
     loop-holds
-    mul-events
-    slice-write-events
-    add-events
-    mul-events-2
-    slice-write-events-2
-    add-events-2
-    mul-events-3
-    slice-write-events-3
-    add-at
+    event-requires
+    add-i
     loop-less
     loop-again
     same-length

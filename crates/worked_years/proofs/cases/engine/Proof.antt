@@ -1,0 +1,51 @@
+-- `cases::engine` meets its contract. Assumes nothing.
+use native.Mathlib.Omega.{arith}
+use lib.ListN.{length-set}
+use borrow.Author.Needs.{needs}
+use Rattle.worked_years.proofs.cases.engine.Statement.{statement}
+use Rattle.worked_years.proofs.cases.engine.Tie as tie
+
+event-requires : tie.Need-event-requires
+event-requires c κs = search needs
+
+mul-at : tie.Need-mul-at
+mul-at c = search needs
+
+add-events : tie.Need-add-events
+add-events c = search needs
+
+mul-events : tie.Need-mul-events
+mul-events c = search needs
+
+slice-write-events : tie.Need-slice-write-events
+slice-write-events c = search needs
+
+add-events-2 : tie.Need-add-events-2
+add-events-2 c = search needs
+
+mul-events-2 : tie.Need-mul-events-2
+mul-events-2 c = search needs
+
+slice-write-events-2 : tie.Need-slice-write-events-2
+slice-write-events-2 c = simp length-set (omega arith)
+
+same-length : tie.Need-same-length
+same-length c = search needs
+
+returns : tie.Need-returns
+returns c = search needs
+
+pub engine-spec : {M : Type 1} → statement M
+engine-spec =
+    tie.close
+    (tie.spec
+    event-requires
+    mul-at
+    add-events
+    mul-events
+    slice-write-events
+    add-events-2
+    mul-events-2
+    slice-write-events-2
+    same-length
+    returns)
