@@ -43,12 +43,12 @@ testsTo results standards zero = []
 testsTo results standards (suc i) = record { result = getD results i 0; standard = getD standards i 0 } ∷ testsTo results standards i
 
 -- for one engine more: there is a place, and each number fits its array
-pub record EngineInRange (e : Engines) (number : ℕ) (results standards : Pair) (period : ℕ) : Type 0 where
+pub record EngineInRange (e : Engines) (n : ℕ) (xs ts : Pair) (d : ℕ) : Type 0 where
   pub place : e .count < 40
-  pub numbered : number ≤ 65535
-  pub resulted : (q : Pollutant) → of q results ≤ 20000
-  pub standing : (q : Pollutant) → of q standards ≤ 20000
-  pub counted : period ≤ 4
+  pub number : n ≤ 65535
+  pub results : (q : Pollutant) → of q xs ≤ 20000
+  pub standards : (q : Pollutant) → of q ts ≤ 20000
+  pub period : d ≤ 4
 
 -- for figures worked from the arrays: up to 40 engines in range, at a resolution of up to 8 × 1,024
 pub record ReworkInRange (results standards : List ℕ) (count k : ℕ) : Type 0 where

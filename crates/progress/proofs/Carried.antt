@@ -74,10 +74,10 @@ module _ (p : State) (c : Consistent p) where
     engine-fits =
         record {
           place = place;
-          numbered = engine-number (shown p) number readings results h;
-          resulted = λ q. leb-true _ _ (engine-results (shown p) number readings results h q);
-          standing = standard-le (p .standards) (c .inRange .standards);
-          counted = c .inRange .period;
+          number = engine-number (shown p) number readings results h;
+          results = λ q. leb-true _ _ (engine-results (shown p) number readings results h q);
+          standards = standard-le (p .standards) (c .inRange .standards);
+          period = c .inRange .period;
         }
 
     pub add-fits : (q : Pollutant) → RunningInRange 1024 (figuresOf q p) (of q results)

@@ -62,7 +62,7 @@ module _ (p : State) (c : Consistent p) where
     refl,
     record {
       inRange = after-in-range NextPeriod (shown p) (c .inRange) h;
-      current = sym (none-in-next (p .period) (tested (p .engines)) (c .inRange .engines));
+      current = sym (none-in-next (p .period) (tested (p .engines)) (c .inRange .periods));
       hcnox = c .hcnox;
       co = c .co;
     },

@@ -1,8 +1,8 @@
 // The progress of a model year in code: one value that is carried from event to event. The definitions are those of the crate year.
-pub mod asking;
-pub mod entering;
-pub mod judging;
-pub mod showing;
+pub mod admissible;
+pub mod events;
+pub mod status;
+pub mod verdict;
 
 use engines::Engines;
 use figures::Running;

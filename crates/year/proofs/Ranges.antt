@@ -68,7 +68,7 @@ start-in-range s h =
       setup = h;
       standards = right (productionInRange s) (standardsInRange (s .standards)) (left (productionInRange s && standardsInRange (s .standards)) (factorsInRange s) h);
       period = omega arith;
-      engines = tt;
+      periods = tt;
       events = omega arith;
       histories = λ q. record { few = omega arith; tests = tt };
     }
@@ -116,7 +116,7 @@ after-in-range (Engine number readings results) p r h =
       setup = r .setup;
       standards = r .standards;
       period = r .period;
-      engines = (le-refl (p .period), r .engines);
+      periods = (le-refl (p .period), r .periods);
       events = omega (arith, not-full p (Engine number readings results) h);
       histories = λ q.
           record {
@@ -125,18 +125,18 @@ after-in-range (Engine number readings results) p r h =
           };
     }
 after-in-range (Amendment standards) p r h =
-    record { setup = r .setup; standards = fitting p (Amendment standards) h; period = r .period; engines = r .engines; events = omega (arith, not-full p (Amendment standards) h); histories = r .histories }
+    record { setup = r .setup; standards = fitting p (Amendment standards) h; period = r .period; periods = r .periods; events = omega (arith, not-full p (Amendment standards) h); histories = r .histories }
 after-in-range NextPeriod p r h =
     record {
       setup = r .setup;
       standards = r .standards;
       period = omega (arith, period-room p h, periods-le (p .setup .volume) (p .setup .days));
-      engines = periods-later (p .period) (p .tested) (r .engines);
+      periods = periods-later (p .period) (p .tested) (r .periods);
       events = omega (arith, not-full p NextPeriod h);
       histories = r .histories;
     }
 after-in-range Declaration p r h =
-    record { setup = r .setup; standards = r .standards; period = r .period; engines = r .engines; events = omega (arith, not-full p Declaration h); histories = r .histories }
+    record { setup = r .setup; standards = r .standards; period = r .period; periods = r .periods; events = omega (arith, not-full p Declaration h); histories = r .histories }
 
 pub valid-in-range : (s : Setup) (es : List Event) → valid s es ≡ true → InRange (replay s es)
 valid-in-range s [] h = start-in-range s h

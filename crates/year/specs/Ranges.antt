@@ -17,6 +17,6 @@ pub record InRange (p : Progress) : Type 0 where
   pub setup : setupInRange (p .setup) ≡ true
   pub standards : standardsInRange (p .standards) ≡ true
   pub period : p .period ≤ 4
-  pub engines : PeriodsUpTo (p .period) (p .tested)
+  pub periods : PeriodsUpTo (p .period) (p .tested)
   pub events : p .stored ≤ 64
   pub histories : (q : Pollutant) → HistoryInRange 40 (history q (p .tested))

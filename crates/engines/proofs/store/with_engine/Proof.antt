@@ -11,7 +11,7 @@ use Rattle.engines.proofs.store.with_engine.Tie as tie
 -- results and standards fit their arrays
 narrow : (s : tie.Start) → (of Hcnox (s .args .results) ≤ 20000) × (of Co (s .args .results) ≤ 20000) × (of Hcnox (s .args .standards) ≤ 20000)
     × (of Co (s .args .standards) ≤ 20000)
-narrow s = (s .pre .resulted Hcnox, s .pre .resulted Co, s .pre .standing Hcnox, s .pre .standing Co)
+narrow s = (s .pre .results Hcnox, s .pre .results Co, s .pre .standards Hcnox, s .pre .standards Co)
 
 add-e : tie.Need-add-e
 add-e c = search needs

@@ -1,7 +1,7 @@
--- `asking::event_fits` meets its contract. Assumes nothing.
+-- `admissible::event_fits` meets its contract. Assumes nothing.
 use borrow.Author.Needs.{needs}
-use Rattle.progress.proofs.asking.event_fits.Statement.{statement}
-use Rattle.progress.proofs.asking.event_fits.Tie as tie
+use Rattle.progress.proofs.admissible.event_fits.Statement.{statement}
+use Rattle.progress.proofs.admissible.event_fits.Tie as tie
 
 enum-known-e : tie.Need-enum-known-e
 enum-known-e c = search needs

@@ -1,8 +1,8 @@
--- `entering::after` meets its contract. Assumes nothing.
+-- `events::after` meets its contract. Assumes nothing.
 use Rattle.progress.proofs.Steps.{amended, next-period, declared}
 use borrow.Author.Needs.{needs}
-use Rattle.progress.proofs.entering.after.Statement.{statement}
-use Rattle.progress.proofs.entering.after.Tie as tie
+use Rattle.progress.proofs.events.after.Statement.{statement}
+use Rattle.progress.proofs.events.after.Tie as tie
 
 enum-known-e : tie.Need-enum-known-e
 enum-known-e c = search needs

@@ -1,9 +1,9 @@
--- `asking::is_admissible` meets its contract. Assumes nothing.
+-- `admissible::is_admissible` meets its contract. Assumes nothing.
 use Rattle.year.specs.Admissible.{admissible}
 use Rattle.buffers.proofs.Tests.{ltb-not-leb}
 use borrow.Author.Needs.{needs}
-use Rattle.progress.proofs.asking.is_admissible.Statement.{statement}
-use Rattle.progress.proofs.asking.is_admissible.Tie as tie
+use Rattle.progress.proofs.admissible.is_admissible.Statement.{statement}
+use Rattle.progress.proofs.admissible.is_admissible.Tie as tie
 
 closed-requires : tie.Need-closed-requires
 closed-requires c κs = search needs

@@ -1,12 +1,12 @@
--- `judging::verdict` meets its contract. Assumes nothing.
+-- `verdict::verdict` meets its contract. Assumes nothing.
 use Rattle.year.specs.Setup.{Hcnox, Co}
 use Rattle.year.specs.Replay.{history}
 use Rattle.year.specs.Verdict.{verdict}
 use Rattle.engines.specs.Engines.{tested}
 use Rattle.progress.proofs.Carried.{counted, carried, size-fits, failed-is, undecided-is}
 use borrow.Author.Needs.{needs}
-use Rattle.progress.proofs.judging.verdict.Statement.{statement}
-use Rattle.progress.proofs.judging.verdict.Tie as tie
+use Rattle.progress.proofs.verdict.verdict.Statement.{statement}
+use Rattle.progress.proofs.verdict.verdict.Tie as tie
 
 either-requires : tie.Need-either-requires
 either-requires c κs = search needs

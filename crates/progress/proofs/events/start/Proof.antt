@@ -1,8 +1,8 @@
--- `entering::start` meets its contract. Assumes nothing.
+-- `events::start` meets its contract. Assumes nothing.
 use Rattle.progress.proofs.Steps.{started}
 use borrow.Author.Needs.{needs}
-use Rattle.progress.proofs.entering.start.Statement.{statement}
-use Rattle.progress.proofs.entering.start.Tie as tie
+use Rattle.progress.proofs.events.start.Statement.{statement}
+use Rattle.progress.proofs.events.start.Tie as tie
 
 no-engines-requires : tie.Need-no-engines-requires
 no-engines-requires c κs = search needs

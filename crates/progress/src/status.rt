@@ -3,7 +3,7 @@ ghost use mathlib.Core.Path.{_≡_};
 ghost use Rattle.year.specs.Status.{status};
 ghost use Rattle.progress.specs.State.{shown, Consistent};
 use crate::Progress;
-use crate::judging::verdict;
+use crate::verdict::verdict;
 use engines::summary::figures_of;
 use year::Status;
 

@@ -1,7 +1,7 @@
--- `asking::period_fits` meets its contract. Assumes nothing.
+-- `admissible::period_fits` meets its contract. Assumes nothing.
 use borrow.Author.Needs.{needs}
-use Rattle.progress.proofs.asking.period_fits.Statement.{statement}
-use Rattle.progress.proofs.asking.period_fits.Tie as tie
+use Rattle.progress.proofs.admissible.period_fits.Statement.{statement}
+use Rattle.progress.proofs.admissible.period_fits.Tie as tie
 
 periods-requires : tie.Need-periods-requires
 periods-requires c κs = search needs

@@ -1,4 +1,4 @@
--- `entering::engine` meets its contract. Assumes nothing.
+-- `events::engine` meets its contract. Assumes nothing.
 use native.Mathlib.Omega.{arith}
 use Rattle.year.specs.Setup.{Hcnox, Co}
 use Rattle.year.specs.Replay.{history}
@@ -6,8 +6,8 @@ use Rattle.engines.specs.Engines.{tested}
 use Rattle.progress.proofs.Carried.{current-le, engine-fits, add-fits, carried}
 use Rattle.progress.proofs.Steps.{engine}
 use borrow.Author.Needs.{needs}
-use Rattle.progress.proofs.entering.engine.Statement.{statement}
-use Rattle.progress.proofs.entering.engine.Tie as tie
+use Rattle.progress.proofs.events.engine.Statement.{statement}
+use Rattle.progress.proofs.events.engine.Tie as tie
 
 with-engine-requires : tie.Need-with-engine-requires
 with-engine-requires c κs =

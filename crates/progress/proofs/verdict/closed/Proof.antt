@@ -1,12 +1,12 @@
--- `judging::closed` meets its contract. Assumes nothing.
+-- `verdict::closed` meets its contract. Assumes nothing.
 use mathlib.Core.Path.{sym}
 use Rattle.year.specs.Setup.{Hcnox, Co}
 use Rattle.year.proofs.Closed.{closed-is}
 use Rattle.progress.specs.State.{shown}
 use Rattle.progress.proofs.Carried.{failed-is}
 use borrow.Author.Needs.{needs}
-use Rattle.progress.proofs.judging.closed.Statement.{statement}
-use Rattle.progress.proofs.judging.closed.Tie as tie
+use Rattle.progress.proofs.verdict.closed.Statement.{statement}
+use Rattle.progress.proofs.verdict.closed.Tie as tie
 
 either-requires : tie.Need-either-requires
 either-requires c κs = search needs
