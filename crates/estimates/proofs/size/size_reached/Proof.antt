@@ -1,7 +1,7 @@
 -- `size::size_reached` meets its contract. Assumes nothing.
 use Prim.Native.Nat.{_-_, _*_, _≤_}
 use native.Mathlib.Omega.{arith}
-use Rattle.estimates.proofs.Sizes.{not-few, not-above, by-quotient, weight-pos, target-fits}
+use Rattle.estimates.proofs.Sizes.{not-few, not-above, by-quotient, target-fits}
 use borrow.Author.Needs.{needs}
 use Rattle.estimates.proofs.size.size_reached.Statement.{statement}
 use Rattle.estimates.proofs.size.size_reached.Tie as tie
@@ -15,11 +15,11 @@ returns c = let a = c .before .args in not-few (a .n) (a .sum) (a .standard) (a 
 returns-2 : tie.Need-returns-2
 returns-2 c = let a = c .before .before .args in not-above (a .n) (a .sum) (a .standard) (a .variation) (c .before .if1 .left) (c .if2 .taken)
 
-sub-weight : tie.Need-sub-weight
-sub-weight c = search needs
+sub-denominator : tie.Need-sub-denominator
+sub-denominator c = search needs
 
-weight-requires : tie.Need-weight-requires
-weight-requires c κs =
+denominator-requires : tie.Need-denominator-requires
+denominator-requires c κs =
     let s = c .before .before in
     let a = s .args in
     omega (arith, target-fits (a .n) (a .sum) (a .standard) (a .variation) (s .pre))
@@ -27,17 +27,11 @@ weight-requires c κs =
 mul-below : tie.Need-mul-below
 mul-below c = search needs
 
-scatter-requires : tie.Need-scatter-requires
-scatter-requires c κs = search needs
-
--- the denominator is above 0, as the sum is below the target
-above : (c : tie.After-scatter) → 1 ≤ c .before .weight .result
-above c =
-    let a = c .before .before .before .before .args in
-    rw (c .before .weight .ensures .0) (weight-pos (a .n) (a .n * a .standard - a .sum) (omega arith) (omega arith))
+numerator-requires : tie.Need-numerator-requires
+numerator-requires c κs = search needs
 
 div-result : tie.Need-div-result
-div-result c = omega (arith, above c)
+div-result c = omega arith
 
 sub-result : tie.Need-sub-result
 sub-result c = search needs
@@ -45,8 +39,8 @@ sub-result c = search needs
 returns-3 : tie.Need-returns-3
 returns-3 c =
     let a = c .before .before .before .before .args in
-    by-quotient (a .n) (a .sum) (a .standard) (a .variation) (c .before .weight .result) (c .scatter .result)
-    (omega arith) (omega arith) (c .before .weight .ensures .0) (c .scatter .ensures .0)
+    by-quotient (a .n) (a .sum) (a .standard) (a .variation) (c .before .denominator .result) (c .numerator .result)
+    (omega arith) (omega arith) (c .before .denominator .ensures .0) (c .numerator .ensures .0)
 
 pub size-reached-spec : {M : Type 1} → statement M
 size-reached-spec =
@@ -55,10 +49,10 @@ size-reached-spec =
     mul-target
     returns
     returns-2
-    sub-weight
-    weight-requires
+    sub-denominator
+    denominator-requires
     mul-below
-    scatter-requires
+    numerator-requires
     div-result
     sub-result
     returns-3)
