@@ -136,6 +136,3 @@ module _ (xs ts : List ℕ) (count k i : ℕ) (r : ReworkInRange xs ts count k) 
         result = tests-before xs ts count (suc i) h (r .history .tests) .0;
         fine = r .fine;
       }
-
-  pub rework-le : (getD xs i 0 ≤ 20000) × (getD ts i 0 ≤ 20000)
-  rework-le = let t = tests-before xs ts count (suc i) h (r .history .tests) in (t .0, t .1)

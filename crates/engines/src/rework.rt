@@ -1,10 +1,20 @@
 // The figures of one pollutant worked from the arrays, at any resolution.
 ghost use mathlib.Core.Path.{_≡_};
+ghost use Prim.Native.Nat.{_<_};
+ghost use lib.ListN.{getD};
 ghost use Rattle.figures.specs.Running.{running};
 ghost use Rattle.engines.specs.Engines.{testsTo, ReworkInRange};
 use figures::Running;
 use figures::add;
 use figures::start;
+
+// The number at a place.
+fn number_at(numbers: [u16; 40], i: usize) -> u32
+    requires { ⌜ i < 40 ⌝ }
+    ensures { λ r. ⌜ r ≡ getD numbers i 0 ⌝ }
+{
+    numbers[i] as u32
+}
 
 pub fn running_at(
     results: [u16; 40],
@@ -18,7 +28,12 @@ pub fn running_at(
     let mut f = start();
     let mut i: usize = 0;
     while i < count {
-        f = add(f, results[i] as u32, standards[i] as u32, resolution);
+        f = add(
+            f,
+            number_at(results, i),
+            number_at(standards, i),
+            resolution,
+        );
         i += 1;
     }
     f

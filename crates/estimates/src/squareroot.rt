@@ -3,7 +3,7 @@ ghost use mathlib.Core.Path.{_≡_};
 ghost use Prim.Native.Nat.{_^_, _≤_, _<_};
 ghost use Rattle.statistics.specs.Spread.{root};
 
-// A first guess: a power of two near the root of x. Only its range is promised, so that another guess changes no proof.
+// A first guess: a power of two near the root of x. Only its range is promised, so that another guess changes no other proof.
 fn guess(x: u64) -> u64
     requires { ⌜ (1 ≤ x) × (x < 2 ^ 62) ⌝ }
     ensures { λ r. ⌜ (1 ≤ r) × (r ≤ 2 ^ 32) ⌝ }

@@ -22,7 +22,7 @@ use Rattle.cumsum.specs.declared.Mark.the-variants.{Unmarked}
 use Rattle.figures.specs.declared.Running.{Running}
 use Rattle.cumsum.specs.Intervals.{nextCumsum, cumsum, limitOf}
 use Rattle.cumsum.specs.Marks.{compared, bothOver, openPair, failed, undecided}
-use Rattle.figures.specs.Running.{newestStandard, running, NextInRange, RunningInRange}
+use Rattle.figures.specs.Running.{newestStandard, running, NextInRange, RunningInRange, Worked}
 use Rattle.cumsum.proofs.Finer.{cumsum-width}
 
 module _ (k : ℕ) where
@@ -111,7 +111,10 @@ newest-le : (h : List Test) → TestsInRange h → newestStandard h ≤ 20000
 newest-le [] r = omega arith
 newest-le (x ∷ h) r = r .1
 
-pub running-size : (k : ℕ) (f : Running) (h : List Test) → f ≡ running k h → HistoryInRange 40 h
+size-of : (k : ℕ) (f : Running) (h : List Test) → f ≡ running k h → HistoryInRange 40 h
     → SizeInRange (f .sums .n) (f .sums .total) (f .standard) (f .sums .variation)
 unfolding running
-running-size k f h e r = rw e (size-in-range h r (newestStandard h) (newest-le h (r .tests)))
+size-of k f h e r = rw e (size-in-range h r (newestStandard h) (newest-le h (r .tests)))
+
+pub running-size : (f : Running) → Worked f → SizeInRange (f .sums .n) (f .sums .total) (f .standard) (f .sums .variation)
+running-size f w = size-of (w .resolution) f (w .history) (w .worked) (w .inRange)

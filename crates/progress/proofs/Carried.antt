@@ -5,7 +5,6 @@ use mathlib.Core.Bool.{true}
 use Prim.Native.Nat.{ℕ, _≤_, _<_}
 use native.Mathlib.Omega.{arith}
 use lib.ListN.{length}
-use Rattle.estimates.specs.Ranges.{SizeInRange}
 use Rattle.cumsum.specs.Marks.{marks, failed, undecided}
 use Rattle.year.specs.declared.Pair.{Pair}
 use Rattle.year.specs.declared.Event.the-variants.{Engine}
@@ -15,8 +14,7 @@ use Rattle.year.specs.Admissible.{admissible}
 use Rattle.year.proofs.Replayed.{history-length}
 use Rattle.year.proofs.Ranges.{standard-le, tested-in-le, engine-number, engine-room, engine-results}
 use Rattle.figures.specs.declared.Running.{Running}
-use Rattle.figures.specs.Running.{running, RunningInRange}
-use Rattle.figures.proofs.OneMore.{running-size}
+use Rattle.figures.specs.Running.{running, RunningInRange, Worked}
 use Rattle.engines.specs.Engines.{resultsOf, standardsOf, tested, testsTo, EngineInRange, ReworkInRange}
 use Rattle.engines.proofs.Arrays.{tested-length, tested-history}
 use Rattle.progress.specs.declared.Progress.{Progress as State}
@@ -39,33 +37,43 @@ module _ (p : State) (c : Consistent p) where
   current-le = omega (arith, c .current, tested-in-le (p .period) (tested (p .engines)), count-le, counted)
 
   pub carried : (q : Pollutant) → figuresOf q p ≡ running 1024 (history q (tested (p .engines)))
-  carried Hcnox = c .hcnox
-  carried Co = c .co
+  carried Hcnox = c .figures .hcnox
+  carried Co = c .figures .co
 
-  module _ (q : Pollutant) where
-    pub size-fits : SizeInRange (figuresOf q p .sums .n) (figuresOf q p .sums .total) (figuresOf q p .standard) (figuresOf q p .sums .variation)
-    size-fits = running-size 1024 (figuresOf q p) (history q (tested (p .engines))) (carried q) (c .inRange .histories q)
+  -- figures of the year at a resolution: the ranges of what is shown, and the flags
+  module _ (k : ℕ) (q : Pollutant) (f : Running) (e : f ≡ running k (history q (tested (p .engines)))) where
+    pub shown-fits : Worked f
+    shown-fits = record { resolution = k; history = history q (tested (p .engines)); worked = e; inRange = c .inRange .histories q }
 
-    pub failed-is : figuresOf q p .failed ≡ failed (marks 1024 (history q (tested (p .engines))))
+    pub failed-is : f .failed ≡ failed (marks k (history q (tested (p .engines))))
     unfolding running
-    failed-is = ap (λ (f : Running). f .failed) (carried q)
+    failed-is = ap (λ (g : Running). g .failed) e
 
-    pub undecided-is : figuresOf q p .undecided ≡ undecided (marks 1024 (history q (tested (p .engines))))
+    pub undecided-is : f .undecided ≡ undecided (marks k (history q (tested (p .engines))))
     unfolding running
-    undecided-is = ap (λ (f : Running). f .undecided) (carried q)
+    undecided-is = ap (λ (g : Running). g .undecided) e
 
-    -- the figures worked from the arrays at a resolution: the ranges are met, and they are the year's
-    pub rework-fits : (k : ℕ) → k ≤ 8192 → ReworkInRange (resultsOf q (p .engines)) (standardsOf q (p .engines)) (p .engines .count) k
-    rework-fits k fine = record { history = rw (← tested-history q (p .engines) (p .engines .count)) (c .inRange .histories q); fine = fine }
+  -- the figures worked from the arrays: the ranges are met, and they are the year's
+  module _ (k : ℕ) (q : Pollutant) where
+    pub rework-fits : k ≤ 8192 → ReworkInRange (resultsOf q (p .engines)) (standardsOf q (p .engines)) (p .engines .count) k
+    rework-fits fine = record { history = rw (← tested-history q (p .engines) (p .engines .count)) (c .inRange .histories q); fine = fine }
 
-    pub reworked : (k : ℕ) (f : Running) → f ≡ running k (testsTo (resultsOf q (p .engines)) (standardsOf q (p .engines)) (p .engines .count)) → f ≡ running k (history q (tested (p .engines)))
-    reworked k f e = e ∙ ap (running k) (sym (tested-history q (p .engines) (p .engines .count)))
+    pub reworked : (f : Running) → f ≡ running k (testsTo (resultsOf q (p .engines)) (standardsOf q (p .engines)) (p .engines .count))
+        → f ≡ running k (history q (tested (p .engines)))
+    reworked f e = e ∙ ap (running k) (sym (tested-history q (p .engines) (p .engines .count)))
 
-    pub rework-size : (k : ℕ) (f : Running) → f ≡ running k (testsTo (resultsOf q (p .engines)) (standardsOf q (p .engines)) (p .engines .count))
-        → SizeInRange (f .sums .n) (f .sums .total) (f .standard) (f .sums .variation)
-    rework-size k f e = running-size k f (history q (tested (p .engines))) (reworked k f e) (c .inRange .histories q)
+  -- one result more in the figures, where there is a place
+  pub add-fits : (q : Pollutant) (x : ℕ) → p .engines .count < 40 → x ≤ 20000 → RunningInRange 1024 (figuresOf q p) x
+  add-fits q x place le =
+      record {
+        history = history q (tested (p .engines));
+        worked = carried q;
+        inRange = record { few = omega (arith, place, history-length q (tested (p .engines)), counted); tests = c .inRange .histories q .tests };
+        result = le;
+        fine = omega arith;
+      }
 
-  -- an engine that could be entered has a place, and room in the figures
+  -- an engine that could be entered: it has a place, its numbers fit, and there is room in the figures
   module _ (number readings : ℕ) (results : Pair) (h : admissible (shown p) (Engine number readings results) ≡ true) where
     pub place : p .engines .count < 40
     place = omega (arith, engine-room (shown p) number readings results h, counted)
@@ -80,12 +88,5 @@ module _ (p : State) (c : Consistent p) where
           period = c .inRange .period;
         }
 
-    pub add-fits : (q : Pollutant) → RunningInRange 1024 (figuresOf q p) (of q results)
-    add-fits q =
-        record {
-          history = history q (tested (p .engines));
-          worked = carried q;
-          inRange = record { few = omega (arith, place, history-length q (tested (p .engines)), counted); tests = c .inRange .histories q .tests };
-          result = leb-true _ _ (engine-results (shown p) number readings results h q);
-          fine = omega arith;
-        }
+    pub result-fits : (q : Pollutant) → RunningInRange 1024 (figuresOf q p) (of q results)
+    result-fits q = add-fits q (of q results) place (engine-fits .results q)

@@ -31,7 +31,7 @@ pub started : (s : Setup) (e : Engines) (h c : Running) → setupInRange s ≡ t
     record { setup = s; standards = s .standards; period = 1; engines = e; stored = 0; declared = false; current = 0; hcnox = h; co = c }
     (start s)
 started s e h c r te hh hc =
-    (stands, record { inRange = subst InRange (sym stands) (start-in-range s r); current = rw te; hcnox = rw te hh; co = rw te hc })
+    (stands, record { inRange = subst InRange (sym stands) (start-in-range s r); current = rw te; figures = record { hcnox = rw te hh; co = rw te hc } })
   where
     stands : record { setup = s; standards = s .standards; period = 1; tested = tested e; stored = 0; declared = false } ≡ start s
     stands = rw te
@@ -55,7 +55,7 @@ module _ (p : State) (c : Consistent p) where
   pub amended : (t : Pair) → admissible (shown p) (Amendment t) ≡ true
       → Stands (changed p t (p .period) (p .declared) (p .current)) (after (Amendment t) (shown p))
   amended t h =
-      (refl, record { inRange = after-in-range (Amendment t) (shown p) (c .inRange) h; current = c .current; hcnox = c .hcnox; co = c .co })
+      (refl, record { inRange = after-in-range (Amendment t) (shown p) (c .inRange) h; current = c .current; figures = record { hcnox = c .figures .hcnox; co = c .figures .co } })
 
   pub next-period : admissible (shown p) NextPeriod ≡ true → Stands (changed p (p .standards) (p .period + 1) (p .declared) 0) (after NextPeriod (shown p))
   next-period h = (
@@ -63,14 +63,13 @@ module _ (p : State) (c : Consistent p) where
     record {
       inRange = after-in-range NextPeriod (shown p) (c .inRange) h;
       current = sym (none-in-next (p .period) (tested (p .engines)) (c .inRange .periods));
-      hcnox = c .hcnox;
-      co = c .co;
+      figures = record { hcnox = c .figures .hcnox; co = c .figures .co };
     },
   )
 
   pub declared : admissible (shown p) Declaration ≡ true → Stands (changed p (p .standards) (p .period) true (p .current)) (after Declaration (shown p))
   declared h =
-      (refl, record { inRange = after-in-range Declaration (shown p) (c .inRange) h; current = c .current; hcnox = c .hcnox; co = c .co })
+      (refl, record { inRange = after-in-range Declaration (shown p) (c .inRange) h; current = c .current; figures = record { hcnox = c .figures .hcnox; co = c .figures .co } })
 
   pub engine : (number readings : ℕ) (results : Pair) (e : Engines) (h o : Running)
       → admissible (shown p) (Engine number readings results) ≡ true
@@ -95,8 +94,7 @@ module _ (p : State) (c : Consistent p) where
     record {
       inRange = subst InRange (sym stands) (after-in-range (Engine number readings results) (shown p) (c .inRange) a);
       current = rw (te, eq-eqb (p .period) (p .period) refl) (omega (arith, c .current));
-      hcnox = rw te eh;
-      co = rw te eo;
+      figures = record { hcnox = rw te eh; co = rw te eo };
     },
   )
     where

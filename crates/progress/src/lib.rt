@@ -1,6 +1,7 @@
 // The progress of a model year in code: one value that is carried from event to event. The definitions are those of the crate year.
 pub mod admissible;
 pub mod events;
+pub mod rework;
 pub mod status;
 pub mod verdict;
 

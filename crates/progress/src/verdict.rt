@@ -1,16 +1,17 @@
 // The verdict.
 ghost use mathlib.Core.Path.{_≡_};
-ghost use mathlib.Core.List.{[], _∷_};
+ghost use Prim.Native.Nat.{ℕ};
 ghost use lib.Dec.{ltb};
 ghost use Rattle.buffers.specs.Rows.{first};
 ghost use Rattle.year.specs.Periods.{needs};
-ghost use Rattle.year.specs.Verdict.{verdict};
+ghost use Rattle.year.specs.Verdict.{verdictTable, verdict};
 ghost use Rattle.year.specs.Admissible.{closed};
-ghost use Rattle.progress.specs.State.{shown, Consistent};
+ghost use Rattle.progress.specs.State.{shown, Figured, Consistent, Judged};
 use crate::Progress;
 use buffers::both;
 use buffers::either;
 use engines::summary::reached;
+use figures::Running;
 use schedule::needs;
 use schedule::one_percent;
 
@@ -24,7 +25,7 @@ fn first_verdict(
     thirty: bool,
     percent: bool,
 ) -> u8
-    ensures { λ r. ⌜ r ≡ first ((declared, 7) ∷ (failed, 6) ∷ (undecided, 5) ∷ (short, 0) ∷ (reached, 2) ∷ (thirty, 3) ∷ (percent, 4) ∷ []) 1 ⌝ }
+    ensures { λ r. ⌜ r ≡ first (verdictTable declared failed undecided short reached thirty percent) 1 ⌝ }
 {
     if declared {
         return 7;
@@ -57,20 +58,28 @@ pub fn is_short(current: u32, period: u32) -> bool
     current < needs(period)
 }
 
-// The calculator's verdict, at resolution 1,024.
-pub fn verdict(p: Progress) -> u8
-    requires { ⌜ Consistent p ⌝ }
-    ensures { λ r. ⌜ r ≡ verdict 1024 (shown p) ⌝ }
+// The verdict by the figures of both pollutants, worked at one resolution.
+pub fn verdict_by(p: Progress, hcnox: Running, co: Running) -> u8
+    requires { ⌜ Judged p hcnox co ⌝ }
+    ensures { λ r. ⌜ ((k : ℕ) → Figured k p hcnox co → r ≡ verdict k (shown p)) ⌝ }
 {
     let n = p.engines.count as u64;
-    let hcnox = p.hcnox;
-    let co = p.co;
     let failed = either(hcnox.failed, co.failed);
     let undecided = either(hcnox.undecided, co.undecided);
     let short = is_short(p.current, p.period);
     let stop = both(reached(hcnox), reached(co));
     let percent = one_percent(p.setup.volume) <= n;
     first_verdict(p.declared, failed, undecided, short, stop, 30 <= n, percent)
+}
+
+// The calculator's verdict, at resolution 1,024.
+pub fn verdict(p: Progress) -> u8
+    requires { ⌜ Consistent p ⌝ }
+    ensures { λ r. ⌜ r ≡ verdict 1024 (shown p) ⌝ }
+{
+    let hcnox = p.hcnox;
+    let co = p.co;
+    verdict_by(p, hcnox, co)
 }
 
 // The verdict is 6 or 7.

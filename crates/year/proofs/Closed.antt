@@ -2,20 +2,16 @@
 -- Assumes nothing.
 use mathlib.Core.Path.{_≡_, refl}
 use mathlib.Core.Bool.{Bool, true, false, _||_}
-use mathlib.Core.List.{[], _∷_}
 use Prim.Native.Nat.{ℕ}
 use lib.Dec.{eqb}
 use Rattle.buffers.specs.Rows.{first, applies}
 use Rattle.cumsum.specs.Marks.{marks, failed}
 use Rattle.year.specs.Setup.{either}
 use Rattle.year.specs.Replay.{Progress, history}
-use Rattle.year.specs.Verdict.{verdictRows, verdict}
+use Rattle.year.specs.Verdict.{verdictTable, verdictRows, verdict}
 use Rattle.year.specs.Admissible.{closed}
 
-abbrev firstOf : (d f u s r t p : Bool) → ℕ
-firstOf d f u s r t p = first ((d, 7) ∷ (f, 6) ∷ (u, 5) ∷ (s, 0) ∷ (r, 2) ∷ (t, 3) ∷ (p, 4) ∷ []) 1
-
-is-closed : (d f u s r t p : Bool) → (eqb (firstOf d f u s r t p) 6 || eqb (firstOf d f u s r t p) 7) ≡ (d || f)
+is-closed : (d f u s r t p : Bool) → (eqb (first (verdictTable d f u s r t p) 1) 6 || eqb (first (verdictTable d f u s r t p) 1) 7) ≡ (d || f)
 is-closed true f u s r t p = refl
 is-closed false true u s r t p = refl
 is-closed false false true s r t p = refl

@@ -1,5 +1,6 @@
 -- Document 01, "Verdict", at resolution k: the first row that applies.
 -- Assumes nothing.
+use mathlib.Core.Bool.{Bool}
 use mathlib.Core.List.{List, [], _∷_}
 use Prim.Native.Nat.{ℕ}
 use lib.Dec.{leb}
@@ -15,17 +16,22 @@ use Rattle.year.specs.Replay.{Progress, history, short}
 abbrev pub onePercent : ℕ → ℕ
 onePercent p = nearestEven p 100
 
--- 7, declared; 6, failed; 5, unsettled; 0, short; 2, the sample size reached for both pollutants; 3, thirty tested; 4, one percent tested
+-- "The first that applies": 7, declared; 6, failed; 5, unsettled; 0, short; 2, the sample size reached; 3, thirty tested; 4, one percent tested
+abbrev pub verdictTable : (declared failed undecided short reached thirty percent : Bool) → List Row
+verdictTable declared failed undecided short reached thirty percent =
+    (declared, 7) ∷ (failed, 6) ∷ (undecided, 5) ∷ (short, 0) ∷ (reached, 2) ∷ (thirty, 3) ∷ (percent, 4) ∷ []
+
+-- 6 and 5 are asked of one pollutant's marks, 2 of both pollutants
 abbrev pub verdictRows : ℕ → Progress → List Row
 verdictRows k p =
-    (p .declared, 7)
-    ∷ (either (λ q. failed (marks k (history q (p .tested)))), 6)
-    ∷ (either (λ q. undecided (marks k (history q (p .tested)))), 5)
-    ∷ (short p, 0)
-    ∷ (both (λ q. sizeReachedOf (history q (p .tested))), 2)
-    ∷ (leb 30 (length (p .tested)), 3)
-    ∷ (leb (onePercent (p .setup .volume)) (length (p .tested)), 4)
-    ∷ []
+    verdictTable
+    (p .declared)
+    (either (λ q. failed (marks k (history q (p .tested)))))
+    (either (λ q. undecided (marks k (history q (p .tested)))))
+    (short p)
+    (both (λ q. sizeReachedOf (history q (p .tested))))
+    (leb 30 (length (p .tested)))
+    (leb (onePercent (p .setup .volume)) (length (p .tested)))
 
 -- otherwise 1, continue
 unfoldable pub verdict : ℕ → Progress → ℕ

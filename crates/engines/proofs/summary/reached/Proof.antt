@@ -1,12 +1,12 @@
 -- `summary::reached` meets its contract. Assumes nothing.
 use mathlib.Core.Path.{_∙_}
+use Rattle.figures.proofs.OneMore.{running-size}
 use Rattle.engines.proofs.Shown.{size-reached}
-use borrow.Author.Needs.{needs}
 use Rattle.engines.proofs.summary.reached.Statement.{statement}
 use Rattle.engines.proofs.summary.reached.Tie as tie
 
 size-reached-requires : tie.Need-size-reached-requires
-size-reached-requires c κs = search needs
+size-reached-requires c κs = running-size (c .before .args .f) (c .before .pre)
 
 returns : tie.Need-returns
 returns c = λ k h e. c .size-reached .ensures ∙ size-reached k (c .before .before .args .f) h e

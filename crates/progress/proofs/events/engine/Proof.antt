@@ -3,7 +3,7 @@ use native.Mathlib.Omega.{arith}
 use Rattle.year.specs.Setup.{Hcnox, Co}
 use Rattle.year.specs.Replay.{history}
 use Rattle.engines.specs.Engines.{tested}
-use Rattle.progress.proofs.Carried.{current-le, engine-fits, add-fits, carried}
+use Rattle.progress.proofs.Carried.{current-le, engine-fits, result-fits, carried}
 use Rattle.progress.proofs.Steps.{engine}
 use borrow.Author.Needs.{needs}
 use Rattle.progress.proofs.events.engine.Statement.{statement}
@@ -25,12 +25,12 @@ add-t12 c =
 add-requires : tie.Need-add-requires
 add-requires c κs =
     let s = c .before .before .before .before .before .before .before .before in
-    add-fits (s .args .p) (s .pre .0) (s .args .number) (s .args .readings) (s .args .results) (s .pre .1) Hcnox
+    result-fits (s .args .p) (s .pre .0) (s .args .number) (s .args .readings) (s .args .results) (s .pre .1) Hcnox
 
 add-requires-2 : tie.Need-add-requires-2
 add-requires-2 c κs =
     let s = c .before .before .before .before .before .before .before .before .before in
-    add-fits (s .args .p) (s .pre .0) (s .args .number) (s .args .readings) (s .args .results) (s .pre .1) Co
+    result-fits (s .args .p) (s .pre .0) (s .args .number) (s .args .readings) (s .args .results) (s .pre .1) Co
 
 returns : tie.Need-returns
 returns c =

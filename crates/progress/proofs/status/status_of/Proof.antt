@@ -3,7 +3,7 @@ use Rattle.year.specs.Setup.{Hcnox, Co}
 use Rattle.year.specs.Replay.{history}
 use Rattle.engines.specs.Engines.{tested}
 use native.Mathlib.Omega.{arith}
-use Rattle.progress.proofs.Carried.{counted, count-le, carried, size-fits}
+use Rattle.progress.proofs.Carried.{counted, count-le, shown-fits}
 use borrow.Author.Needs.{needs}
 use Rattle.progress.proofs.status.status_of.Statement.{statement}
 use Rattle.progress.proofs.status.status_of.Tie as tie
@@ -15,10 +15,10 @@ verdict-requires : tie.Need-verdict-requires
 verdict-requires c κs = search needs
 
 figures-of-requires : tie.Need-figures-of-requires
-figures-of-requires c κs = let s = c .before .before .before .before in size-fits (s .args .p) (s .pre) Hcnox
+figures-of-requires c κs = let s = c .before .before .before .before in shown-fits (s .args .p) (s .pre) 1024 Hcnox (s .args .p .hcnox) (s .pre .figures .hcnox)
 
 figures-of-requires-2 : tie.Need-figures-of-requires-2
-figures-of-requires-2 c κs = let s = c .before .before .before .before .before in size-fits (s .args .p) (s .pre) Co
+figures-of-requires-2 c κs = let s = c .before .before .before .before .before in shown-fits (s .args .p) (s .pre) 1024 Co (s .args .p .co) (s .pre .figures .co)
 
 returns : tie.Need-returns
 returns c =
@@ -27,8 +27,8 @@ returns c =
     let p = s .args .p in
     rw (
       v .verdict .ensures,
-      c .before .figures-of .ensures 1024 (history Hcnox (tested (p .engines))) (carried p (s .pre) Hcnox),
-      c .figures-of2 .ensures 1024 (history Co (tested (p .engines))) (carried p (s .pre) Co),
+      c .before .figures-of .ensures 1024 (history Hcnox (tested (p .engines))) (s .pre .figures .hcnox),
+      c .figures-of2 .ensures 1024 (history Co (tested (p .engines))) (s .pre .figures .co),
       counted p (s .pre),
     )
 

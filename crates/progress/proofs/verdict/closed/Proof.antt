@@ -18,7 +18,7 @@ returns : tie.Need-returns
 returns c =
     let s = c .before .before .before .before in
     let p = s .args .p in
-    rw (c .either2 .ensures, c .before .either .ensures, failed-is p (s .pre) Hcnox, failed-is p (s .pre) Co) (sym (closed-is (shown p)))
+    rw (c .either2 .ensures, c .before .either .ensures, failed-is p (s .pre) 1024 Hcnox (p .hcnox) (s .pre .figures .hcnox), failed-is p (s .pre) 1024 Co (p .co) (s .pre .figures .co)) (sym (closed-is (shown p)))
 
 pub closed-spec : {M : Type 1} → statement M
 closed-spec = tie.close (tie.spec either-requires either-requires-2 returns)

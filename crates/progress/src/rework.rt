@@ -1,0 +1,28 @@
+// The figures of a year worked anew from its engines, at any resolution.
+ghost use mathlib.Core.Path.{_≡_};
+ghost use Rattle.progress.specs.State.{Figured, ReworkInRange};
+use crate::Progress;
+use engines::rework::running_at;
+use figures::Running;
+
+// The figures of both pollutants.
+pub struct Reworked {
+    pub hcnox: Running,
+    pub co: Running,
+}
+
+pub fn rework(p: Progress, resolution: u64) -> Reworked
+    requires { ⌜ ReworkInRange p resolution ⌝ }
+    ensures { λ r. ⌜ Figured resolution p (r .hcnox) (r .co) ⌝ }
+{
+    let engines = p.engines;
+    let count = engines.count;
+    let hcnox_results = engines.hcnox_results;
+    let hcnox_standards = engines.hcnox_standards;
+    let co_results = engines.co_results;
+    let co_standards = engines.co_standards;
+    Reworked {
+        hcnox: running_at(hcnox_results, hcnox_standards, count, resolution),
+        co: running_at(co_results, co_standards, count, resolution),
+    }
+}
