@@ -9,6 +9,7 @@ use crate::lines::number;
 use crate::lines::status;
 use crate::lines::text;
 use crate::work::Worked;
+use crate::work::at_most;
 use crate::work::work;
 use rounding::Factor;
 use rounding::nearest_even;
@@ -131,14 +132,21 @@ fn engine(events: &mut [u32], i: usize, number: u32, readings: u32, hcnox: u32, 
     events[at + 4] = co;
 }
 
+// The result of one reading that no factor changes.
+fn result(reading: u32) -> u32 {
+    let one = [reading];
+    at_most(result_of(no_factor(), &one), 20001) as u32
+}
+
 // Document 01's whole run. The last engine comes after the declaration.
 pub fn printed_run() {
+    let co = result(5000000);
     let mut events = [0u32; 25];
-    engine(&mut events, 0, 1, 1, 998, 5000);
-    engine(&mut events, 1, 2, 1, 1071, 5000);
-    engine(&mut events, 2, 3, 1, 900, 5000);
+    engine(&mut events, 0, 1, 1, result(998000), co);
+    engine(&mut events, 1, 2, 1, result(1071000), co);
+    engine(&mut events, 2, 3, 1, result(900000), co);
     event(&mut events, 3, 4, 0, 0);
-    engine(&mut events, 4, 4, 1, 0, 0);
+    engine(&mut events, 4, 4, 1, result(1), result(1));
     text(b"run\n");
     year_by_year(setup_of(5000, 800, 6100), &events, 8192);
 }
@@ -263,7 +271,7 @@ fn put_engines(events: &mut [u32])
     }
 }
 
-// The forty-first engine has no place.
+// Under 20,000 the forty-first engine has no place; under 10 the year fails at the ninth, and no more are entered.
 pub fn largest(hcnox: u32, co: u32) {
     let mut events = [0u32; 205];
     put_engines(&mut events);

@@ -5,12 +5,12 @@ ghost use Prim.Native.Nat.{_+_, _≤_};
 ghost use lib.ListN.{length};
 ghost use Rattle.year.specs.Setup.{setupInRange};
 ghost use Rattle.progress.specs.State.{Consistent};
-use engines::rework::running_at;
 use engines::summary::figures_of;
 use progress::Progress;
 use progress::admissible::is_admissible;
 use progress::events::after;
 use progress::events::start;
+use progress::rework::rework;
 use progress::status::status_of;
 use schedule::setup_in_range;
 use year::Event;
@@ -84,7 +84,7 @@ fn enter_all(setup: Setup, numbers: &[u32]) -> Progress
     p
 }
 
-fn at_most(n: u64, most: u64) -> u64
+pub fn at_most(n: u64, most: u64) -> u64
     ensures { λ r. ⌜ r ≤ most ⌝ }
 {
     if most < n {
@@ -99,16 +99,13 @@ pub fn work(setup: Setup, numbers: &[u32], resolution: u64) -> Worked {
         return Worked::NoYear;
     }
     let p = enter_all(setup, numbers);
-    let k = at_most(resolution, 8192);
-    let engines = p.engines;
-    let hcnox_results = engines.hcnox_results;
-    let hcnox_standards = engines.hcnox_standards;
-    let co_results = engines.co_results;
-    let co_standards = engines.co_standards;
+    let again = rework(p, at_most(resolution, 8192));
+    let hcnox = again.hcnox;
+    let co = again.co;
     Worked::Year {
         stored: p.stored,
         status: status_of(p),
-        hcnox: figures_of(running_at(hcnox_results, hcnox_standards, engines.count, k)),
-        co: figures_of(running_at(co_results, co_standards, engines.count, k)),
+        hcnox: figures_of(hcnox),
+        co: figures_of(co),
     }
 }

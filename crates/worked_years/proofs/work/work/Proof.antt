@@ -2,7 +2,7 @@
 use mathlib.Core.Path.{sym, _∙_}
 use borrow.Author.Tests.{not-false}
 use Rattle.year.specs.Setup.{Hcnox, Co}
-use Rattle.progress.proofs.Carried.{rework-fits, rework-size}
+use Rattle.progress.proofs.Carried.{shown-fits}
 use borrow.Author.Needs.{needs}
 use Rattle.worked_years.proofs.work.work.Statement.{statement}
 use Rattle.worked_years.proofs.work.work.Tie as tie
@@ -19,28 +19,23 @@ enter-all-requires c κs = sym (c .before .setup-in-range .ensures) ∙ not-fals
 at-most-requires : tie.Need-at-most-requires
 at-most-requires c κs = search needs
 
+rework-requires : tie.Need-rework-requires
+rework-requires c κs = search needs
+
 status-of-requires : tie.Need-status-of-requires
 status-of-requires c κs = search needs
 
-running-at-requires : tie.Need-running-at-requires
-running-at-requires c κs =
-    let e = c .before .before .before .before .before .before in
-    rework-fits (e .before .enter-all .result) (e .before .enter-all .ensures) Hcnox (e .at-most .result) (e .at-most .ensures)
-
 figures-of-requires : tie.Need-figures-of-requires
 figures-of-requires c κs =
-    let e = c .before .before .before .before .before .before .before in
-    rework-size (e .before .enter-all .result) (e .before .enter-all .ensures) Hcnox (e .at-most .result) (c .running-at .result) (c .running-at .ensures)
-
-running-at-requires-2 : tie.Need-running-at-requires-2
-running-at-requires-2 c κs =
-    let e = c .before .before .before .before .before .before .before .before in
-    rework-fits (e .before .enter-all .result) (e .before .enter-all .ensures) Co (e .at-most .result) (e .at-most .ensures)
+    let w = c .before .before .before in
+    let e = w .before .before .enter-all in
+    shown-fits (e .result) (e .ensures) (w .before .at-most .result) Hcnox (w .rework .result .hcnox) (w .rework .ensures .hcnox)
 
 figures-of-requires-2 : tie.Need-figures-of-requires-2
 figures-of-requires-2 c κs =
-    let e = c .before .before .before .before .before .before .before .before .before in
-    rework-size (e .before .enter-all .result) (e .before .enter-all .ensures) Co (e .at-most .result) (c .running-at2 .result) (c .running-at2 .ensures)
+    let w = c .before .before .before .before in
+    let e = w .before .before .enter-all in
+    shown-fits (e .result) (e .ensures) (w .before .at-most .result) Co (w .rework .result .co) (w .rework .ensures .co)
 
 returns-2 : tie.Need-returns-2
 returns-2 c = search needs
@@ -53,9 +48,8 @@ work-spec =
     returns
     enter-all-requires
     at-most-requires
+    rework-requires
     status-of-requires
-    running-at-requires
     figures-of-requires
-    running-at-requires-2
     figures-of-requires-2
     returns-2)
