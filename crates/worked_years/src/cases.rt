@@ -1,6 +1,6 @@
 // The cases, in the order of document 01.
 ghost use mathlib.Core.Path.{_≡_};
-ghost use Prim.Native.Nat.{_+_, _*_, _≤_};
+ghost use Prim.Native.Nat.{_+_, _≤_, _<_};
 ghost use lib.ListN.{length};
 use crate::lines::end;
 use crate::lines::figures;
@@ -8,8 +8,8 @@ use crate::lines::next;
 use crate::lines::number;
 use crate::lines::status;
 use crate::lines::text;
+use crate::numbers::read_numbers;
 use crate::work::Worked;
-use crate::work::at_most;
 use crate::work::work;
 use rounding::Factor;
 use rounding::nearest_even;
@@ -83,6 +83,8 @@ pub fn rounding() {
     ));
     let two = [1500u32, 600];
     next(result_of(no_factor(), &two));
+    let read = [998000u32];
+    next(result_of(no_factor(), &read));
     let three = [20000000u32, 20000000, 20000000];
     next(result_of(
         Factor {
@@ -112,132 +114,100 @@ pub fn schedules() {
     end();
 }
 
-// Event i of a list, five numbers long: its kind, and what work.rt reads after it.
-fn event(events: &mut [u32], i: usize, kind: u32, first: u32, second: u32)
-    requires { ⌜ 5 * i + 5 ≤ length (now events) ⌝ }
-{
-    let at = 5 * i;
-    events[at] = kind;
-    events[at + 1] = first;
-    events[at + 2] = second;
-}
-
-// An engine: its number, how many readings it had for each pollutant, and its results.
-fn engine(events: &mut [u32], i: usize, number: u32, readings: u32, hcnox: u32, co: u32)
-    requires { ⌜ 5 * i + 5 ≤ length (now events) ⌝ }
-{
-    event(events, i, 1, number, readings);
-    let at = 5 * i;
-    events[at + 3] = hcnox;
-    events[at + 4] = co;
-}
-
-// The result of one reading that no factor changes.
-fn result(reading: u32) -> u32 {
-    let one = [reading];
-    at_most(result_of(no_factor(), &one), 20001) as u32
+// The years of a text: its numbers, one space between two, are events as work.rt reads them, five numbers each.
+fn years(setup: Setup, events: &[u8], resolution: u64) {
+    let mut numbers = [0u32; 330];
+    if events.len() < 330 {
+        let n = read_numbers(events, &mut numbers);
+        if n <= 330 {
+            year_by_year(setup, &numbers[..n], resolution);
+        }
+    }
 }
 
 // Document 01's whole run. The last engine comes after the declaration.
 pub fn printed_run() {
-    let co = result(5000000);
-    let mut events = [0u32; 25];
-    engine(&mut events, 0, 1, 1, result(998000), co);
-    engine(&mut events, 1, 2, 1, result(1071000), co);
-    engine(&mut events, 2, 3, 1, result(900000), co);
-    event(&mut events, 3, 4, 0, 0);
-    engine(&mut events, 4, 4, 1, result(1), result(1));
     text(b"run\n");
-    year_by_year(setup_of(5000, 800, 6100), &events, 8192);
+    years(
+        setup_of(5000, 800, 6100),
+        b"1 1 1 998 5000 1 2 1 1071 5000 1 3 1 900 5000 4 0 0 0 0 1 4 1 0 0",
+        8192,
+    );
 }
 
-// T 100, X 500 three times, and a fourth after the failure.
-pub fn failed() {
-    let mut events = [0u32; 20];
-    engine(&mut events, 0, 1, 1, 500, 5000);
-    engine(&mut events, 1, 2, 1, 500, 5000);
-    engine(&mut events, 2, 3, 1, 500, 5000);
-    engine(&mut events, 3, 4, 1, 500, 5000);
+// T 100, X 500 three times, and a fourth after the failure; T 1,000, X 800 twice and X 1,000 twice, P 1,500.
+pub fn starred_years() {
     text(b"failed\n");
-    year_by_year(setup_of(5000, 100, 6100), &events, 1024);
-}
-
-// The same result twice.
-fn twice(volume: u32, standard: u32, result: u32) {
-    let mut events = [0u32; 10];
-    engine(&mut events, 0, 1, 1, result, 5000);
-    engine(&mut events, 1, 2, 1, result, 5000);
-    year_by_year(setup_of(volume, standard, 6100), &events, 1024);
-}
-
-// T 1,000, X 800 twice and X 1,000 twice, P 1,500.
-pub fn sizes() {
+    years(
+        setup_of(5000, 100, 6100),
+        b"1 1 1 500 5000 1 2 1 500 5000 1 3 1 500 5000 1 4 1 500 5000",
+        1024,
+    );
     text(b"reached\n");
-    twice(1500, 1000, 800);
+    years(
+        setup_of(1500, 1000, 6100),
+        b"1 1 1 800 5000 1 2 1 800 5000",
+        1024,
+    );
     text(b"no size\n");
-    twice(1500, 1000, 1000);
+    years(
+        setup_of(1500, 1000, 6100),
+        b"1 1 1 1000 5000 1 2 1 1000 5000",
+        1024,
+    );
 }
 
-// Marks '-', '?', 'O': verdict 5, which finer work settles.
-pub fn undecided() {
-    let mut events = [0u32; 15];
-    engine(&mut events, 0, 1, 1, 998, 5000);
-    engine(&mut events, 1, 2, 1, 1071, 5000);
-    engine(&mut events, 2, 3, 1, 926, 5000);
+// Marks '-', '?', 'O' (verdict 5, which finer work settles); N exactly 4 at n = 4, which is no stop; one percent of 150 is 2 (verdict 4); a deviation that is
+// exact, and the next period where there is none.
+pub fn other_years() {
     text(b"undecided\n");
-    year_by_year(setup_of(5000, 800, 6100), &events, 8192);
-}
-
-// N is exactly 4 at n = 4, which is no stop.
-pub fn at_n() {
-    let mut events = [0u32; 20];
-    engine(&mut events, 0, 1, 1, 23, 5000);
-    engine(&mut events, 1, 2, 1, 23, 5000);
-    engine(&mut events, 2, 3, 1, 83, 5000);
-    engine(&mut events, 3, 4, 1, 83, 5000);
+    years(
+        setup_of(5000, 800, 6100),
+        b"1 1 1 998 5000 1 2 1 1071 5000 1 3 1 926 5000",
+        8192,
+    );
     text(b"at N\n");
-    year_by_year(setup_of(5000, 100, 6100), &events, 1024);
-}
-
-// One percent of 150 is 2: verdict 4.
-pub fn percent() {
+    years(
+        setup_of(5000, 100, 6100),
+        b"1 1 1 23 5000 1 2 1 23 5000 1 3 1 83 5000 1 4 1 83 5000",
+        1024,
+    );
     text(b"one percent\n");
-    twice(150, 1000, 1000);
-}
-
-// A deviation that is exact, and the next period where there is none.
-pub fn exact() {
-    let mut events = [0u32; 20];
-    engine(&mut events, 0, 1, 1, 100, 5000);
-    engine(&mut events, 1, 2, 1, 200, 5000);
-    engine(&mut events, 2, 3, 1, 300, 5000);
-    event(&mut events, 3, 3, 0, 0);
+    years(
+        setup_of(150, 1000, 6100),
+        b"1 1 1 1000 5000 1 2 1 1000 5000",
+        1024,
+    );
     text(b"exact\n");
-    year_by_year(setup_of(1500, 300, 6100), &events, 8192);
+    years(
+        setup_of(1500, 300, 6100),
+        b"1 1 1 100 5000 1 2 1 200 5000 1 3 1 300 5000 3 0 0 0 0",
+        8192,
+    );
 }
 
 // Amendments and periods, and events that could not be entered: a period while short, a number twice, a standard that is no multiple of ten, no reading, a
-// result above 20,000, number 0.
+// result above 20,000, number 0. And setups that are out of range.
 pub fn amended() {
-    let mut events = [0u32; 65];
-    event(&mut events, 0, 3, 0, 0);
-    engine(&mut events, 1, 1, 3, 998, 5000);
-    engine(&mut events, 2, 1, 1, 900, 5000);
-    event(&mut events, 3, 2, 700, 6100);
-    event(&mut events, 4, 2, 705, 6100);
-    engine(&mut events, 5, 2, 1, 900, 5000);
-    event(&mut events, 6, 3, 0, 0);
-    event(&mut events, 7, 3, 0, 0);
-    engine(&mut events, 8, 3, 0, 900, 5000);
-    engine(&mut events, 9, 3, 1, 900, 20001);
-    engine(&mut events, 10, 0, 1, 900, 5000);
-    engine(&mut events, 11, 65535, 1, 950, 6000);
-    event(&mut events, 12, 3, 0, 0);
     text(b"amended\n");
-    year_by_year(setup_of(5000, 800, 6100), &events, 2048);
+    years(
+        setup_of(5000, 800, 6100),
+        b"3 0 0 0 0 1 1 3 998 5000 1 1 1 900 5000 2 700 6100 0 0 2 705 6100 0 0 1 2 1 900 5000 3 0 0 0 0 3 0 0 0 0 1 3 0 900 5000 1 3 1 900 20001 1 0 1 900 5000 1 65535 1 950 6000 3 0 0 0 0",
+        2048,
+    );
     text(b"out of range\n");
-    year(setup_of(0, 800, 6100), &events, 1024);
-    year(setup_of(5000, 805, 6100), &events, 1024);
+    let none = [0u32; 0];
+    year(setup_of(0, 800, 6100), &none, 1024);
+    year(setup_of(5000, 805, 6100), &none, 1024);
+}
+
+// Sixty-five amendments and a declaration: only sixty-four events have a place.
+pub fn many_events() {
+    let mut events = [0u32; 330];
+    put_amendments(&mut events);
+    events[325] = 4;
+    text(b"many events\n");
+    year(setup_of(5000, 800, 6100), &events, 1024);
 }
 
 fn put_amendments(events: &mut [u32])
@@ -245,18 +215,18 @@ fn put_amendments(events: &mut [u32])
 {
     let mut i: usize = 0;
     while i < 65 {
-        event(events, i, 2, 10, 20000);
+        put(events, 5 * i, 2, 10, 20000);
         i += 1;
     }
 }
 
-// Sixty-five amendments and a declaration: only sixty-four events have a place.
-pub fn many_events() {
-    let mut events = [0u32; 330];
-    put_amendments(&mut events);
-    event(&mut events, 65, 4, 0, 0);
-    text(b"many events\n");
-    year(setup_of(5000, 800, 6100), &events, 1024);
+// Three numbers from a place on.
+fn put(events: &mut [u32], at: usize, first: u32, second: u32, third: u32)
+    requires { ⌜ at + 3 ≤ length (now events) ⌝ }
+{
+    events[at] = first;
+    events[at + 1] = second;
+    events[at + 2] = third;
 }
 
 // Forty-one engines of three readings at 0 and 20,000 alternating, CO the other way round.
@@ -265,10 +235,18 @@ fn put_engines(events: &mut [u32])
 {
     let mut i: usize = 0;
     while i < 41 {
-        let high = 20000 * ((i % 2) as u32);
-        engine(events, i, (i as u32) + 1, 3, high, 20000 - high);
+        put_engine(events, 5 * i, i as u32);
         i += 1;
     }
+}
+
+fn put_engine(events: &mut [u32], at: usize, i: u32)
+    requires { ⌜ (at + 5 ≤ length (now events)) × (i < 41) ⌝ }
+{
+    let high = 20000 * (i % 2);
+    put(events, at, 1, i + 1, 3);
+    events[at + 3] = high;
+    events[at + 4] = 20000 - high;
 }
 
 // Under 20,000 the forty-first engine has no place; under 10 the year fails at the ninth, and no more are entered.
@@ -283,7 +261,7 @@ pub fn largest(hcnox: u32, co: u32) {
 pub fn largest_amended() {
     let mut events = [0u32; 205];
     put_engines(&mut events);
-    event(&mut events, 38, 2, 10, 10);
+    put(&mut events, 190, 2, 10, 10);
     text(b"largest, amended\n");
     year_by_year(setup_of(99999999, 20000, 20000), &events, 8192);
 }

@@ -2,18 +2,15 @@
 // stdout, which was worked by another program from document 01 alone.
 mod cases;
 mod lines;
+mod numbers;
 mod work;
 
 fn main() {
     cases::rounding();
     cases::schedules();
     cases::printed_run();
-    cases::failed();
-    cases::sizes();
-    cases::undecided();
-    cases::at_n();
-    cases::percent();
-    cases::exact();
+    cases::starred_years();
+    cases::other_years();
     cases::amended();
     cases::many_events();
     cases::largest(20000, 20000);

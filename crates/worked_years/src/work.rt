@@ -84,7 +84,7 @@ fn enter_all(setup: Setup, numbers: &[u32]) -> Progress
     p
 }
 
-pub fn at_most(n: u64, most: u64) -> u64
+fn at_most(n: u64, most: u64) -> u64
     ensures { λ r. ⌜ r ≤ most ⌝ }
 {
     if most < n {

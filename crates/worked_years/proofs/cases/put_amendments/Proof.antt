@@ -15,8 +15,11 @@ abbrev μ-loop : tie.MeasureT-loop
 loop-holds : tie.Need-loop-holds Inv-loop μ-loop
 loop-holds c = omega arith
 
-event-requires : tie.Need-event-requires Inv-loop μ-loop
-event-requires c κs = omega arith
+mul-put : tie.Need-mul-put Inv-loop μ-loop
+mul-put c = omega arith
+
+put-requires : tie.Need-put-requires Inv-loop μ-loop
+put-requires c κs = omega arith
 
 add-i : tie.Need-add-i Inv-loop μ-loop
 add-i c = omega arith
@@ -25,7 +28,7 @@ loop-less : tie.Need-loop-less Inv-loop μ-loop
 loop-less c = omega arith
 
 loop-again : tie.Need-loop-again Inv-loop μ-loop
-loop-again c = omega (arith, c .before .before .event .kept)
+loop-again c = omega (arith, c .before .before .put .kept)
 
 same-length : tie.Need-same-length Inv-loop μ-loop
 same-length c = omega arith
@@ -40,7 +43,8 @@ put-amendments-spec =
     Inv-loop
     μ-loop
     loop-holds
-    event-requires
+    mul-put
+    put-requires
     add-i
     loop-less
     loop-again

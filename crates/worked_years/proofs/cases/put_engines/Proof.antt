@@ -15,23 +15,14 @@ abbrev μ-loop : tie.MeasureT-loop
 loop-holds : tie.Need-loop-holds Inv-loop μ-loop
 loop-holds c = omega arith
 
-cast-high : tie.Need-cast-high Inv-loop μ-loop
-cast-high c = omega arith
+mul-put-engine : tie.Need-mul-put-engine Inv-loop μ-loop
+mul-put-engine c = omega arith
 
-mul-high : tie.Need-mul-high Inv-loop μ-loop
-mul-high c = omega arith
+cast-put-engine : tie.Need-cast-put-engine Inv-loop μ-loop
+cast-put-engine c = omega arith
 
-cast-engine : tie.Need-cast-engine Inv-loop μ-loop
-cast-engine c = omega arith
-
-add-engine : tie.Need-add-engine Inv-loop μ-loop
-add-engine c = omega arith
-
-sub-engine : tie.Need-sub-engine Inv-loop μ-loop
-sub-engine c = omega arith
-
-engine-requires : tie.Need-engine-requires Inv-loop μ-loop
-engine-requires c κs = omega arith
+put-engine-requires : tie.Need-put-engine-requires Inv-loop μ-loop
+put-engine-requires c κs = omega arith
 
 add-i : tie.Need-add-i Inv-loop μ-loop
 add-i c = omega arith
@@ -40,7 +31,7 @@ loop-less : tie.Need-loop-less Inv-loop μ-loop
 loop-less c = omega arith
 
 loop-again : tie.Need-loop-again Inv-loop μ-loop
-loop-again c = omega (arith, c .before .before .engine .kept)
+loop-again c = omega (arith, c .before .before .put-engine .kept)
 
 same-length : tie.Need-same-length Inv-loop μ-loop
 same-length c = omega arith
@@ -55,12 +46,9 @@ put-engines-spec =
     Inv-loop
     μ-loop
     loop-holds
-    cast-high
-    mul-high
-    cast-engine
-    add-engine
-    sub-engine
-    engine-requires
+    mul-put-engine
+    cast-put-engine
+    put-engine-requires
     add-i
     loop-less
     loop-again

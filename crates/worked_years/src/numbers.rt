@@ -1,0 +1,37 @@
+// Numbers from text: digits, one space between two numbers.
+ghost use Prim.Native.Nat.{_+_, _≤_, _<_};
+ghost use lib.ListN.{length};
+
+// A digit more, or the number as it is at a space.
+fn with_byte(number: u32, b: u8) -> u32 {
+    if b == 32 {
+        return number;
+    }
+    number % 100000 * 10 + (b % 16) as u32
+}
+
+// Where the next byte's number stands: the next place after a space.
+fn place_after(place: usize, b: u8) -> usize
+    requires { ⌜ place < 1000 ⌝ }
+    ensures { λ r. ⌜ r ≤ place + 1 ⌝ }
+{
+    if b == 32 {
+        return place + 1;
+    }
+    place
+}
+
+// The numbers of a text, over zeros; and how many there are.
+pub fn read_numbers(text: &[u8], out: &mut [u32]) -> usize
+    requires { ⌜ (length (now text) < length (now out)) × (length (now out) < 1000) ⌝ }
+{
+    let mut place: usize = 0;
+    let mut i: usize = 0;
+    while i < text.len() {
+        let b = text[i];
+        out[place] = with_byte(out[place], b);
+        place = place_after(place, b);
+        i += 1;
+    }
+    place + 1
+}
