@@ -1,5 +1,4 @@
-// Shared by every crate: ranges, tables of which the first row that applies is taken, bytes of a lent buffer, text as bytes.
-// No type is declared here.
+// Shared by every crate: a range, and two tests joined. (Written as functions, since what is known of a test is lost where `&&` or `||` joins it in a local.)
 ghost use mathlib.Core.Path.{_≡_};
 ghost use mathlib.Core.Bool.{_&&_, _||_};
 ghost use Rattle.buffers.specs.Numbers.{within};

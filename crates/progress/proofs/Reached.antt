@@ -1,4 +1,5 @@
 -- Every list of events that could have been entered has a state that stands for it: what the functions of this crate require is met by each of them.
+-- (The state is a value of the definitions, its arrays of 40 places. That code gets there, by machine numbers, is what `start` and `after` promise.)
 -- Assumes nothing.
 use mathlib.Core.Path.{_≡_, refl, sym, subst}
 use mathlib.Core.Bool.{true}
