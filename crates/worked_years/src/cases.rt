@@ -2,9 +2,9 @@
 ghost use mathlib.Core.Path.{_≡_};
 ghost use Prim.Native.Nat.{_+_, _≤_, _<_};
 ghost use lib.ListN.{length};
+use crate::lines::all;
 use crate::lines::end;
 use crate::lines::figures;
-use crate::lines::next;
 use crate::lines::number;
 use crate::lines::status;
 use crate::lines::text;
@@ -23,6 +23,13 @@ use year::Setup;
 
 fn no_factor() -> Factor {
     Factor { kind: 0, value: 0 }
+}
+
+fn times(thousandths: u32) -> Factor {
+    Factor {
+        kind: 1,
+        value: thousandths,
+    }
 }
 
 fn setup_of(volume: u32, hcnox: u32, co: u32) -> Setup {
@@ -67,50 +74,44 @@ fn year_by_year(setup: Setup, numbers: &[u32], resolution: u64) {
     }
 }
 
-// 1,000,500 to 1,000; 1,001,500 to 1,002; the mean of 800 and 801; 50 under factor 1,050 of kind 1; and readings rounded one by one.
+// 1,000,500 to 1,000; 1,001,500 to 1,002; the mean of 800 and 801; 50 under factor 1,050 of kind 1; readings rounded one by one; a reading of the printed run;
+// and the largest readings under the largest factor.
 pub fn rounding() {
-    text(b"rounding");
-    next(nearest_even(1000500, 1000));
-    next(nearest_even(1001500, 1000));
-    next(nearest_even(800 + 801, 2));
     let fifty = [50000u32];
-    next(result_of(
-        Factor {
-            kind: 1,
-            value: 1050,
-        },
-        &fifty,
-    ));
     let two = [1500u32, 600];
-    next(result_of(no_factor(), &two));
-    let read = [998000u32];
-    next(result_of(no_factor(), &read));
+    let one = [998000u32];
     let three = [20000000u32, 20000000, 20000000];
-    next(result_of(
-        Factor {
-            kind: 1,
-            value: 60000,
-        },
-        &three,
-    ));
+    let numbers = [
+        nearest_even(1000500, 1000),
+        nearest_even(1001500, 1000),
+        nearest_even(800 + 801, 2),
+        result_of(times(1050), &fifty),
+        result_of(no_factor(), &two),
+        result_of(no_factor(), &one),
+        result_of(times(60000), &three),
+    ];
+    text(b"rounding");
+    all(&numbers);
     end();
 }
 
 // Periods, what they need, and one percent.
 pub fn schedules() {
+    let counts = [
+        periods(1599, 365) as u64,
+        periods(1600, 120) as u64,
+        periods(1600, 121) as u64,
+        periods(1600, 300) as u64,
+        periods(1600, 301) as u64,
+        needs(1) as u64,
+        needs(2) as u64,
+    ];
     text(b"periods");
-    next(periods(1599, 365) as u64);
-    next(periods(1600, 120) as u64);
-    next(periods(1600, 121) as u64);
-    next(periods(1600, 300) as u64);
-    next(periods(1600, 301) as u64);
-    next(needs(1) as u64);
-    next(needs(2) as u64);
+    all(&counts);
     end();
+    let percent = [one_percent(250), one_percent(350), one_percent(99999999)];
     text(b"percent");
-    next(one_percent(250));
-    next(one_percent(350));
-    next(one_percent(99999999));
+    all(&percent);
     end();
 }
 

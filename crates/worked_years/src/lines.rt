@@ -15,9 +15,17 @@ pub fn number(n: u64) {
     print_decimal(STDOUT_FILENO, n);
 }
 
-pub fn next(n: u64) {
+fn next(n: u64) {
     text(b" ");
     number(n);
+}
+
+pub fn all(numbers: &[u64]) {
+    let mut i: usize = 0;
+    while i < numbers.len() {
+        next(numbers[i]);
+        i += 1;
+    }
 }
 
 pub fn end() {
@@ -42,16 +50,11 @@ fn size(s: SampleSize) {
 
 // S, s, e, both C, both H, N in tenths, mark.
 pub fn figures(f: Figures) {
-    next(f.sum);
     let d = f.deviation;
-    next(d.floor);
-    next(d.inexact);
     let c = f.cumsum;
-    next(c.low);
-    next(c.high);
     let h = f.limit;
-    next(h.low);
-    next(h.high);
+    let numbers = [f.sum, d.floor, d.inexact, c.low, c.high, h.low, h.high];
+    all(&numbers);
     let s = f.size;
     size(s);
     let m = f.mark;
