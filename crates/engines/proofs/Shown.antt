@@ -1,15 +1,15 @@
 -- The figures of a status from the running figures: before engine 2, and from it on; and the stop test.
 -- Assumes nothing.
-use mathlib.Core.Path.{_≡_, ap}
+use mathlib.Core.Path.{_≡_}
 use mathlib.Core.List.{List, [], _∷_}
-use Prim.Native.Nat.{ℕ, _≤_, _<_}
+use Prim.Native.Nat.{ℕ}
 use native.Mathlib.Nat.{add-zero}
 use native.Mathlib.Omega.{arith}
 use Rattle.statistics.specs.declared.SampleSize.{SampleSize}
 use Rattle.statistics.specs.Spread.{Test}
 use Rattle.statistics.proofs.Deviations.{deviation-early}
 use Rattle.statistics.specs.SampleSize.{sampleSize, sizeReached, sizeReachedOf}
-use Rattle.year.specs.Status.{blank, figures}
+use Rattle.year.specs.Status.{figures}
 use Rattle.figures.specs.declared.Running.{Running}
 use Rattle.figures.specs.Running.{running}
 

@@ -1,5 +1,4 @@
 // The figures of a year worked anew from its engines, at any resolution.
-ghost use mathlib.Core.Path.{_≡_};
 ghost use Rattle.progress.specs.State.{Figured, ReworkInRange};
 use crate::Progress;
 use engines::rework::running_at;

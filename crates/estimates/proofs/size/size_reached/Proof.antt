@@ -1,5 +1,5 @@
 -- `size::size_reached` meets its contract. Assumes nothing.
-use Prim.Native.Nat.{_-_, _*_, _≤_}
+use Prim.Native.Nat.{_-_}
 use native.Mathlib.Omega.{arith}
 use Rattle.estimates.proofs.Sizes.{not-few, not-above, by-quotient, target-fits}
 use borrow.Author.Needs.{needs}
