@@ -4,13 +4,9 @@ ghost use Prim.Native.Nat.{_+_, _≤_, _<_};
 ghost use lib.ListN.{length};
 use crate::lines::all;
 use crate::lines::end;
-use crate::lines::figures;
-use crate::lines::number;
-use crate::lines::status;
 use crate::lines::text;
 use crate::numbers::read_numbers;
-use crate::work::Worked;
-use crate::work::work;
+use crate::work::year;
 use rounding::Factor;
 use rounding::nearest_even;
 use rounding::result_of;
@@ -42,26 +38,6 @@ fn setup_of(volume: u32, hcnox: u32, co: u32) -> Setup {
             co: no_factor(),
         },
     }
-}
-
-// A line for the whole year: the events entered, the status, and the figures of both pollutants at another resolution.
-fn year(setup: Setup, numbers: &[u32], resolution: u64) {
-    let w = work(setup, numbers, resolution);
-    match w {
-        Worked::Year {
-            stored,
-            status: s,
-            hcnox,
-            co,
-        } => {
-            number(stored as u64);
-            status(s);
-            figures(hcnox);
-            figures(co);
-        }
-        Worked::NoYear => text(b"no year"),
-    }
-    end();
 }
 
 // The year before its first event and after each.
@@ -115,9 +91,10 @@ pub fn schedules() {
     end();
 }
 
-// The years of a text: its numbers, one space between two, are events as work.rt reads them, five numbers each.
-fn years(setup: Setup, events: &[u8], resolution: u64) {
+// The years of a text, under a title: its numbers, one space between two, are events as work.rt reads them, five numbers each.
+fn years(title: &[u8], setup: Setup, events: &[u8], resolution: u64) {
     let mut numbers = [0u32; 330];
+    text(title);
     if events.len() < 330 {
         let n = read_numbers(events, &mut numbers);
         if n <= 330 {
@@ -126,78 +103,72 @@ fn years(setup: Setup, events: &[u8], resolution: u64) {
     }
 }
 
-// Document 01's whole run. The last engine comes after the declaration.
-pub fn printed_run() {
-    text(b"run\n");
+// Document 01's whole run (the last engine comes after the declaration), and its starred years: T 100, X 500 three times, and a fourth after the failure;
+// T 1,000, X 800 twice and X 1,000 twice, P 1,500.
+pub fn document_years() {
+    let a = setup_of(5000, 800, 6100);
     years(
-        setup_of(5000, 800, 6100),
+        b"run\n",
+        a,
         b"1 1 1 998 5000 1 2 1 1071 5000 1 3 1 900 5000 4 0 0 0 0 1 4 1 0 0",
         8192,
     );
-}
-
-// T 100, X 500 three times, and a fourth after the failure; T 1,000, X 800 twice and X 1,000 twice, P 1,500.
-pub fn starred_years() {
-    text(b"failed\n");
+    let b = setup_of(5000, 100, 6100);
     years(
-        setup_of(5000, 100, 6100),
+        b"failed\n",
+        b,
         b"1 1 1 500 5000 1 2 1 500 5000 1 3 1 500 5000 1 4 1 500 5000",
         1024,
     );
-    text(b"reached\n");
-    years(
-        setup_of(1500, 1000, 6100),
-        b"1 1 1 800 5000 1 2 1 800 5000",
-        1024,
-    );
-    text(b"no size\n");
-    years(
-        setup_of(1500, 1000, 6100),
-        b"1 1 1 1000 5000 1 2 1 1000 5000",
-        1024,
-    );
+    let c = setup_of(1500, 1000, 6100);
+    years(b"reached\n", c, b"1 1 1 800 5000 1 2 1 800 5000", 1024);
+    years(b"no size\n", c, b"1 1 1 1000 5000 1 2 1 1000 5000", 1024);
 }
 
 // Marks '-', '?', 'O' (verdict 5, which finer work settles); N exactly 4 at n = 4, which is no stop; one percent of 150 is 2 (verdict 4); a deviation that is
-// exact, and the next period where there is none.
+// exact, and the next period where there is none. Then amendments and periods, and events that could not be entered: a period while short, a number twice, a
+// standard that is no multiple of ten, no reading, a result above 20,000, number 0.
 pub fn other_years() {
-    text(b"undecided\n");
+    let a = setup_of(5000, 800, 6100);
     years(
-        setup_of(5000, 800, 6100),
+        b"undecided\n",
+        a,
         b"1 1 1 998 5000 1 2 1 1071 5000 1 3 1 926 5000",
         8192,
     );
-    text(b"at N\n");
+    let b = setup_of(5000, 100, 6100);
     years(
-        setup_of(5000, 100, 6100),
+        b"at N\n",
+        b,
         b"1 1 1 23 5000 1 2 1 23 5000 1 3 1 83 5000 1 4 1 83 5000",
         1024,
     );
-    text(b"one percent\n");
+    let c = setup_of(150, 1000, 6100);
     years(
-        setup_of(150, 1000, 6100),
+        b"one percent\n",
+        c,
         b"1 1 1 1000 5000 1 2 1 1000 5000",
         1024,
     );
-    text(b"exact\n");
+    let d = setup_of(1500, 300, 6100);
     years(
-        setup_of(1500, 300, 6100),
+        b"exact\n",
+        d,
         b"1 1 1 100 5000 1 2 1 200 5000 1 3 1 300 5000 3 0 0 0 0",
         8192,
     );
-}
-
-// Amendments and periods, and events that could not be entered: a period while short, a number twice, a standard that is no multiple of ten, no reading, a
-// result above 20,000, number 0. And setups that are out of range.
-pub fn amended() {
-    text(b"amended\n");
     years(
-        setup_of(5000, 800, 6100),
+        b"amended\n",
+        a,
         b"3 0 0 0 0 1 1 3 998 5000 1 1 1 900 5000 2 700 6100 0 0 2 705 6100 0 0 1 2 1 900 5000 3 0 0 0 0 3 0 0 0 0 1 3 0 900 5000 1 3 1 900 20001 1 0 1 900 5000 1 65535 1 950 6000 3 0 0 0 0",
         2048,
     );
-    text(b"out of range\n");
+}
+
+// Setups that are out of range.
+pub fn no_years() {
     let none = [0u32; 0];
+    text(b"out of range\n");
     year(setup_of(0, 800, 6100), &none, 1024);
     year(setup_of(5000, 805, 6100), &none, 1024);
 }

@@ -8,10 +8,9 @@ mod work;
 fn main() {
     cases::rounding();
     cases::schedules();
-    cases::printed_run();
-    cases::starred_years();
+    cases::document_years();
     cases::other_years();
-    cases::amended();
+    cases::no_years();
     cases::many_events();
     cases::largest(20000, 20000);
     cases::largest(10, 20000);

@@ -5,6 +5,11 @@ ghost use Prim.Native.Nat.{_+_, _≤_};
 ghost use lib.ListN.{length};
 ghost use Rattle.year.specs.Setup.{setupInRange};
 ghost use Rattle.progress.specs.State.{Consistent};
+use crate::lines::end;
+use crate::lines::figures;
+use crate::lines::number;
+use crate::lines::status;
+use crate::lines::text;
 use engines::summary::figures_of;
 use progress::Progress;
 use progress::admissible::is_admissible;
@@ -14,21 +19,8 @@ use progress::rework::rework;
 use progress::status::status_of;
 use schedule::setup_in_range;
 use year::Event;
-use year::Figures;
 use year::Pair;
 use year::Setup;
-use year::Status;
-
-// The number of events that were entered, the status, and the figures of both pollutants worked anew from the arrays at another resolution.
-pub enum Worked {
-    Year {
-        stored: u32,
-        status: Status,
-        hcnox: Figures,
-        co: Figures,
-    },
-    NoYear,
-}
 
 // Five numbers are an event: its kind, and an engine's number, readings and two results, or an amendment's two standards.
 fn event_at(numbers: &[u32], at: usize) -> Event
@@ -93,19 +85,20 @@ fn at_most(n: u64, most: u64) -> u64
     n
 }
 
-// The year of a setup and the events that the numbers say, at 1,024 and, from the arrays, at `resolution` or at 8,192 where that is less.
-pub fn work(setup: Setup, numbers: &[u32], resolution: u64) -> Worked {
+// The year of a setup and the events that the numbers say, on one line: how many were entered, the status at 1,024, and the figures of both pollutants worked anew
+// at `resolution`, or at 8,192 where that is less.
+pub fn year(setup: Setup, numbers: &[u32], resolution: u64) {
     if !setup_in_range(setup) {
-        return Worked::NoYear;
+        text(b"no year\n");
+        return;
     }
     let p = enter_all(setup, numbers);
     let again = rework(p, at_most(resolution, 8192));
     let hcnox = again.hcnox;
     let co = again.co;
-    Worked::Year {
-        stored: p.stored,
-        status: status_of(p),
-        hcnox: figures_of(hcnox),
-        co: figures_of(co),
-    }
+    number(p.stored as u64);
+    status(status_of(p));
+    figures(figures_of(hcnox));
+    figures(figures_of(co));
+    end();
 }

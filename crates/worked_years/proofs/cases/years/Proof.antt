@@ -6,6 +6,9 @@ use borrow.Author.Needs.{needs}
 use Rattle.worked_years.proofs.cases.years.Statement.{statement}
 use Rattle.worked_years.proofs.cases.years.Tie as tie
 
+text-requires : tie.Need-text-requires
+text-requires c κs = search needs
+
 slice-aggregate-read-numbers : tie.Need-slice-aggregate-read-numbers
 slice-aggregate-read-numbers c = search needs
 
@@ -36,6 +39,7 @@ pub years-spec : {M : Type 1} → statement M
 years-spec =
     tie.close
     (tie.spec
+    text-requires
     slice-aggregate-read-numbers
     read-numbers-requires
     array-share-prefix-numbers
