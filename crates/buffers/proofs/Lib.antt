@@ -1,3 +1,5 @@
 pub mod Cases
 pub mod Tests
 pub mod Rows
+pub mod Same
+pub mod Numbers

@@ -22,6 +22,11 @@ pub or-false : (a b : Bool) → (a || b) ≡ false → (a ≡ false) × (b ≡ f
 or-false true b h = absurd (true≢false h)
 or-false false b h = (refl, h)
 
+-- what follows from each of two tests follows where at least one holds
+pub either-true : (a : Bool) {b : Bool} {P : Type 0} → (a ≡ true → P) → (b ≡ true → P) → (a || b) ≡ true → P
+either-true true f g h = f refl
+either-true false f g h = g h
+
 pub false-not : {a : Bool} → a ≡ false → not a ≡ true
 false-not h = rw h
 

@@ -1,3 +1,4 @@
 pub mod Cases
 pub mod Validity
 pub mod WithSetup
+pub mod Stored

@@ -72,7 +72,7 @@ abbrev pub ValidModel : Model → Type 0
 ValidModel NoSetup = Unit {0}
 ValidModel (Year s es) = valid s es ≡ true
 
-setup-valid : (s : Setup) (model : Model) → refusal 544 (SetUp s) model ≡ 0 → setupInRange s ≡ true
+pub setup-valid : (s : Setup) (model : Model) → refusal 544 (SetUp s) model ≡ 0 → setupInRange s ≡ true
 unfolding refusals
 setup-valid s model h =
     let row = not-refused 544 (SetUp s) model h in

@@ -1,10 +1,10 @@
 -- A list of calls with an accepted setup in it leaves the reference model with a setup.
 -- Assumes nothing.
 use mathlib.Core.Path.{_≡_, refl}
-use mathlib.Core.Bool.{Bool, true, false, _&&_, _||_, false≢true}
+use mathlib.Core.Bool.{true, false, _&&_, false≢true}
 use mathlib.Core.List.{List, [], _∷_}
 use lib.Dec.{eqb}
-use Rattle.buffers.proofs.Tests.{by-test}
+use Rattle.buffers.proofs.Tests.{by-test, either-true}
 use Rattle.year.specs.Model.{Model, NoSetup, Year}
 use Rattle.calls.specs.Call.{Call, SetUp, Enter, ReadStatus, WriteMarks, isSetup}
 use Rattle.calls.specs.Refusals.{noSetup, refusal}
@@ -30,12 +30,8 @@ setup-has (Enter entry) model h = absurd (false≢true h)
 setup-has ReadStatus model h = absurd (false≢true h)
 setup-has (WriteMarks size) model h = absurd (false≢true h)
 
-either-has : (now : Bool) {before : Bool} {P : Type 0} → (now ≡ true → P) → (before ≡ true → P) → (now || before) ≡ true → P
-either-has true f g h = f refl
-either-has false f g h = g h
-
 pub model-has-setup : (calls : List Call) → setupAccepted calls ≡ true → noSetup (modelOf calls) ≡ false
 model-has-setup [] h = absurd (false≢true h)
 model-has-setup (call ∷ calls) h =
-    either-has (isSetup call && eqb (refusal 544 call (modelOf calls)) 0) (setup-has call (modelOf calls))
+    either-true (isSetup call && eqb (refusal 544 call (modelOf calls)) 0) (setup-has call (modelOf calls))
     (λ before. step-has call (modelOf calls) (model-has-setup calls before)) h

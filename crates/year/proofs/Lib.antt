@@ -5,3 +5,4 @@ pub mod Valid
 pub mod Kept
 pub mod Ranges
 pub mod Closed
+pub mod Setups

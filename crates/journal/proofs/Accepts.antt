@@ -1,0 +1,136 @@
+-- A buffer is accepted exactly if its parts are as document 01 says: size, header, number of events, events in their order, unused slots.
+-- Assumes nothing.
+use mathlib.Core.Path.{_≡_, refl, sym, ap, _∙_}
+use mathlib.Core.Bool.{Bool, true, false, cond, _&&_, and-eq-true-iff}
+use mathlib.Core.List.{List, [], _∷_, _++_}
+use Prim.Native.Nat.{ℕ, zero, suc, _+_, _-_, _*_, _≤_}
+use native.Mathlib.Numerals.{unary-clauses}
+use native.Mathlib.Omega.{arith}
+use lib.ListN.{length, getD, take, drop, length-append, length-drop}
+use lib.Seq.{take-nil, take-take, drop-drop}
+use Rattle.buffers.specs.Bytes.{zeros, same}
+use Rattle.buffers.proofs.Same.{same-equal, same-append}
+use Rattle.buffers.proofs.Tests.{and-true}
+use Rattle.year.specs.declared.Setup.{Setup}
+use Rattle.year.specs.declared.Event.{Event}
+use Rattle.year.specs.Replay.{replay}
+use Rattle.year.specs.Admissible.{admissible, valid}
+use Rattle.year.specs.Model.{NoSetup, Year}
+use Rattle.year.proofs.Replayed.{replay-stored}
+use Rattle.year.proofs.Ranges.{valid-in-range}
+use Rattle.journal.specs.Encode.{header, slotOf, slots, encode, slotPlace}
+use Rattle.journal.specs.Read.{setupIn, eventIn, eventsIn, readAs, readJournal}
+use Rattle.journal.specs.Acceptance.{isHeader, isSlot, entersAt, entersUpTo, isZero, Acceptable}
+use Rattle.journal.proofs.Encoded.{length-slots, length-encode}
+use Rattle.journal.proofs.Reading.{no-year}
+
+suc-plus : (i k : ℕ) → suc i + k ≡ suc (i + k)
+suc-plus i k = omega arith
+
+drop-take : (i k : ℕ) (l : List ℕ) → drop i (take (i + k) l) ≡ take k (drop i l)
+drop-take zero k l = let none : 0 + k ≡ k = omega arith in rw none
+drop-take (suc i) k [] = rw (suc-plus i k) (sym (take-nil k))
+drop-take (suc i) k (x ∷ l) = rw (suc-plus i k) (drop-take i k l)
+
+-- three lists joined, part by part
+same-parts : (h b z journal : List ℕ) (m n : ℕ) → length h ≡ m → length b ≡ n
+    → same (h ++ b ++ z) journal ≡ ((same h (take m journal) && same b (take n (drop m journal))) && same z (drop (m + n) journal))
+same-parts h b z journal m n p q =
+    same-append (h ++ b) z journal
+    ∙ rw (length-append h b, p, q, same-append h b (take (m + n) journal), p, take-take m (m + n) journal (omega arith), drop-take m n journal)
+
+pub length-events : (journal : List ℕ) (j : ℕ) → length (eventsIn journal j) ≡ j
+length-events journal zero = refl
+length-events journal (suc j) = ap suc (length-events journal j)
+
+and-swap : (a v s d : Bool) → ((a && v) && (s && d)) ≡ ((a && s) && (v && d))
+and-swap false v s d = refl
+and-swap true true s d = refl
+and-swap true false true d = refl
+and-swap true false false d = refl
+
+module _ (journal : List ℕ) where
+  abbrev body : ℕ → List ℕ
+  body j = take (8 * j) (drop 32 journal)
+
+  slots-length : (j : ℕ) → length (slots (eventsIn journal j)) ≡ 8 * j
+  slots-length j = omega (arith, length-slots (eventsIn journal j), length-events journal j)
+
+  -- the slots so far and one more
+  slots-next : (j : ℕ) → same (slots (eventsIn journal (suc j))) (body (suc j)) ≡ (same (slots (eventsIn journal j)) (body j) && isSlot (drop (slotPlace j) journal))
+  unfolding isSlot
+  slots-next j =
+      let e = eventIn (drop (slotPlace j) journal) in
+      let more : 8 * suc j ≡ 8 * j + 8 = omega arith in
+      let front : take (8 * j) (take (8 * j + 8) (drop 32 journal)) ≡ take (8 * j) (drop 32 journal) = take-take (8 * j) (8 * j + 8) (drop 32 journal) (omega arith) in
+      let slot : drop (8 * j) (take (8 * j + 8) (drop 32 journal)) ≡ take 8 (drop (slotPlace j) journal)
+      = drop-take (8 * j) 8 (drop 32 journal) ∙ ap (take 8) (drop-drop (8 * j) 32 journal) in
+      rw (more, same-append (slots (eventsIn journal j)) (slotOf e) (take (8 * j + 8) (drop 32 journal)), slots-length j, front, slot)
+
+  enters-is : (j : ℕ) → entersUpTo journal j ≡ (same (slots (eventsIn journal j)) (body j) && valid (setupIn journal) (eventsIn journal j))
+  unfolding entersAt
+  enters-is zero = refl
+  enters-is (suc j) =
+      let s = setupIn journal in
+      let es = eventsIn journal j in
+      let slot = isSlot (drop (slotPlace j) journal) in
+      let fits = admissible (replay s es) (eventIn (drop (slotPlace j) journal)) in
+      rw (enters-is j, slots-next j) (and-swap (same (slots es) (body j)) (valid s es) slot fits)
+
+  abbrev count : ℕ
+  count = getD journal 24 0
+
+  -- the bytes of what is read, part by part
+  encoded-is : same (encode (setupIn journal) (eventsIn journal count)) journal
+      ≡ ((isHeader journal && same (slots (eventsIn journal count)) (body count)) && same (zeros (512 - 8 * count)) (drop (slotPlace count) journal))
+  unfolding isHeader
+  encoded-is =
+      let s = setupIn journal in
+      let es = eventsIn journal count in
+      ap (λ k. same (header s k ++ slots es ++ zeros (512 - 8 * k)) journal) (length-events journal count)
+      ∙ same-parts (header s count) (slots es) (zeros (512 - 8 * count)) journal 32 (8 * count) refl (slots-length count)
+
+  -- what is asked of a buffer, as tests of its parts
+  whole-is : (same (encode (setupIn journal) (eventsIn journal count)) journal && valid (setupIn journal) (eventsIn journal count))
+      ≡ (isHeader journal && same (zeros (512 - 8 * count)) (drop (slotPlace count) journal) && entersUpTo journal count)
+  whole-is = rw (encoded-is, enters-is count) (moved (isHeader journal) _ _ _)
+    where
+      moved : (h s z v : Bool) → (((h && s) && z) && v) ≡ ((h && z) && (s && v))
+      moved false s z v = refl
+      moved true false z v = none z
+        where
+          none : (z : Bool) → false ≡ (z && false)
+          none true = refl
+          none false = refl
+      moved true true true v = refl
+      moved true true false v = refl
+
+  rest-length : length journal ≡ 544 → length (drop (slotPlace count) journal) ≡ 512 - 8 * count
+  rest-length h = omega (arith, length-drop (slotPlace count) journal)
+
+  -- a buffer of acceptable parts is read as what they say
+  pub acceptable-read : Acceptable journal → readJournal journal ≡ Year (setupIn journal) (eventsIn journal count)
+  unfolding readAs
+  acceptable-read p =
+      let unused = rw (rest-length (p .size)) at (p .unused) in
+      rw (whole-is, p .header, unused, p .events)
+
+  tests-hold : (b : Bool) (t : Setup) (fs : List Event) → cond b (Year (setupIn journal) (eventsIn journal count)) NoSetup ≡ Year t fs → b ≡ true
+  tests-hold true t fs h = refl
+  tests-hold false t fs h = absurd (no-year t fs h)
+
+  -- and an accepted buffer has acceptable parts
+  pub read-acceptable : (t : Setup) (fs : List Event) → readJournal journal ≡ Year t fs → Acceptable journal
+  unfolding readAs
+  read-acceptable t fs h =
+      let s = setupIn journal in
+      let es = eventsIn journal count in
+      let zero = same (zeros (512 - 8 * count)) (drop (slotPlace count) journal) in
+      let whole = tests-hold (same (encode s es) journal && valid s es) t fs h in
+      let stored = and-eq-true-iff (same (encode s es) journal) (valid s es) .0 whole in
+      let parts = and-eq-true-iff (isHeader journal && zero) (entersUpTo journal count) .0 (sym whole-is ∙ whole) in
+      let front = and-eq-true-iff (isHeader journal) zero .0 (parts .0) in
+      let few : count ≤ 64 = omega (arith, valid-in-range s es (stored .1) .events, replay-stored s es, length-events journal count) in
+      let size : length journal ≡ 544
+      = sym (ap length (same-equal (encode s es) journal (stored .0))) ∙ length-encode s es (omega (arith, length-events journal count)) in
+      record { size = size; header = front .0; count = few; events = parts .1; unused = rw (rest-length size) (front .1) }

@@ -1,0 +1,43 @@
+-- Document 01, "The book", told part by part: "A book is accepted exactly if its first 32 bytes are as above and its events could have been entered in that
+-- order", with "Unnamed bytes and unused slots are zero." That `readJournal` accepts exactly these is the field `exactly` of OneJournal.
+-- Assumes nothing.
+use mathlib.Core.Path.{_≡_}
+use mathlib.Core.Bool.{Bool, true, _&&_}
+use mathlib.Core.List.{List}
+use Prim.Native.Nat.{ℕ, zero, suc, _≤_}
+use lib.ListN.{length, getD, take, drop}
+use Rattle.buffers.specs.Bytes.{zeros, same}
+use Rattle.year.specs.Setup.{setupInRange}
+use Rattle.year.specs.Replay.{replay}
+use Rattle.year.specs.Admissible.{admissible}
+use Rattle.journal.specs.Encode.{header, slotOf, slotPlace}
+use Rattle.journal.specs.Read.{setupIn, eventIn, eventsIn}
+
+-- the first 32 bytes are the header of the setup and the number of events that they say
+unfoldable pub isHeader : List ℕ → Bool
+isHeader journal = same (header (setupIn journal) (getD journal 24 0)) (take 32 journal)
+
+-- the eight bytes at the front of a part are the slot of the event that they say
+unfoldable pub isSlot : List ℕ → Bool
+isSlot part = same (slotOf (eventIn part)) (take 8 part)
+
+-- slot j is one, and its event could be entered after those of the slots before it
+unfoldable pub entersAt : List ℕ → ℕ → Bool
+entersAt journal j =
+    isSlot (drop (slotPlace j) journal) && admissible (replay (setupIn journal) (eventsIn journal j)) (eventIn (drop (slotPlace j) journal))
+
+-- the setup is in range, and so it is with each of the first slots
+abbrev pub entersUpTo : List ℕ → ℕ → Bool
+entersUpTo journal zero = setupInRange (setupIn journal)
+entersUpTo journal (suc j) = entersUpTo journal j && entersAt journal j
+
+-- every byte of a part is zero
+abbrev pub isZero : List ℕ → Bool
+isZero part = same (zeros (length part)) part
+
+pub record Acceptable (journal : List ℕ) : Type 0 where
+  pub size : length journal ≡ 544
+  pub header : isHeader journal ≡ true
+  pub count : getD journal 24 0 ≤ 64
+  pub events : entersUpTo journal (getD journal 24 0) ≡ true
+  pub unused : isZero (drop (slotPlace (getD journal 24 0)) journal) ≡ true

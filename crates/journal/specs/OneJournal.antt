@@ -1,0 +1,40 @@
+-- Demand 2: "For one setup, every list of accepted events .. has one book, and every accepted book reads back as its setup and list."
+-- The whole of it: what is stored is read back, what is read back was stored so, and nothing else is accepted, of all buffers whatever.
+-- Assumes nothing.
+use mathlib.Core.Path.{_≡_}
+use mathlib.Core.Bool.{true}
+use mathlib.Core.List.{List, _∷_}
+use Prim.Native.Nat.{ℕ}
+use lib.ListN.{length, getD}
+use Rattle.year.specs.declared.Setup.{Setup}
+use Rattle.year.specs.declared.Event.{Event}
+use Rattle.year.specs.Replay.{replay}
+use Rattle.year.specs.Admissible.{admissible, valid}
+use Rattle.year.specs.Model.{NoSetup, Year}
+use Rattle.journal.specs.Encode.{encode, append}
+use Rattle.journal.specs.Read.{setupIn, eventsIn, readJournal}
+use Rattle.journal.specs.Acceptance.{Acceptable}
+
+-- a journal is the stored form of a setup and events that could have been entered
+pub record Stores (journal : List ℕ) (s : Setup) (es : List Event) : Type 0 where
+  pub stored : journal ≡ encode s es
+  pub valid : valid s es ≡ true
+
+pub record OneJournal : Type 0 where
+  -- the journal of a setup and events that could have been entered has 544 bytes and is read back as these
+  pub size : (s : Setup) (es : List Event) → valid s es ≡ true → length (encode s es) ≡ 544
+  pub readBack : (s : Setup) (es : List Event) → valid s es ≡ true → readJournal (encode s es) ≡ Year s es
+  -- an accepted journal is the one of what it is read as
+  pub accepted : (journal : List ℕ) (s : Setup) (es : List Event) → readJournal journal ≡ Year s es → Stores journal s es
+  -- two setups and lists with one journal are equal
+  pub one : (s t : Setup) (es fs : List Event) → valid s es ≡ true → valid t fs ≡ true → encode s es ≡ encode t fs → (s ≡ t) × (es ≡ fs)
+  -- a buffer that is not accepted is the journal of none
+  pub refused : (journal : List ℕ) → readJournal journal ≡ NoSetup → (s : Setup) (es : List Event) → Stores journal s es → ⊥
+  -- "accepted exactly if": part by part
+  pub exactly : (journal : List ℕ) → Acceptable journal → readJournal journal ≡ Year (setupIn journal) (eventsIn journal (getD journal 24 0))
+  pub exactlyIf : (journal : List ℕ) (s : Setup) (es : List Event) → readJournal journal ≡ Year s es → Acceptable journal
+  -- one event more, written as its slot and byte 24, leaves the journal of the list with that event
+  pub appended : (journal : List ℕ) (s : Setup) (es : List Event) (e : Event) → readJournal journal ≡ Year s es → admissible (replay s es) e ≡ true
+      → append journal e ≡ encode s (e ∷ es)
+  pub appendedRead : (journal : List ℕ) (s : Setup) (es : List Event) (e : Event) → readJournal journal ≡ Year s es → admissible (replay s es) e ≡ true
+      → readJournal (append journal e) ≡ Year s (e ∷ es)
