@@ -1,5 +1,5 @@
 pub mod Cases
-pub mod Reading
 pub mod Encoded
-pub mod Accepts
+pub mod Reading
+pub mod Exactly
 pub mod OneJournal

@@ -9,7 +9,7 @@ use Rattle.year.proofs.Ranges.{valid-in-range}
 use Rattle.journal.specs.OneJournal.{OneJournal}
 use Rattle.journal.proofs.Encoded.{length-encode}
 use Rattle.journal.proofs.Reading.{read-encode, read-stores, one-journal, none-stored, append-stored, append-read}
-use Rattle.journal.proofs.Accepts.{acceptable-read, read-acceptable}
+use Rattle.journal.proofs.Exactly.{acceptable-read, read-acceptable}
 
 pub demand : OneJournal
 demand =
