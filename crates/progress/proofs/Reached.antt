@@ -57,11 +57,8 @@ all-sized = record { numbers = refl; periods = refl; results = results-sized; st
 
 from-start : (s : Setup) → valid s [] ≡ true → Reached (replay s [])
 from-start s h =
-    record {
-      state = _;
-      stands = started s noEngines (running 1024 []) (running 1024 []) h refl refl refl;
-      sized = all-sized;
-    }
+    let first = started s noEngines (running 1024 []) (running 1024 []) refl refl refl in
+    record { state = _; stands = (first .0, first .1 h); sized = all-sized }
 
 -- one event more from a state that stands for the year
 step : (e : Event) (p : State) → Consistent p → Sized (p .engines) → admissible (shown p) e ≡ true → Reached (after e (shown p))

@@ -25,13 +25,15 @@ use Rattle.progress.specs.State.{shown, Consistent}
 abbrev pub Stands : State → Progress → Type 0
 Stands p y = (shown p ≡ y) × Consistent p
 
-pub started : (s : Setup) (e : Engines) (h c : Running) → setupInRange s ≡ true → tested e ≡ []
-    → h ≡ running 1024 [] → c ≡ running 1024 []
-    → Stands
+-- the state before the first event
+abbrev first : Setup → Engines → Running → Running → State
+first s e h c =
     record { setup = s; standards = s .standards; period = 1; engines = e; stored = 0; declared = false; current = 0; hcnox = h; co = c }
-    (start s)
-started s e h c r te hh hc =
-    (stands, record { inRange = subst InRange (sym stands) (start-in-range s r); current = rw te; figures = record { hcnox = rw te hh; co = rw te hc } })
+
+pub started : (s : Setup) (e : Engines) (h c : Running) → tested e ≡ [] → h ≡ running 1024 [] → c ≡ running 1024 []
+    → (shown (first s e h c) ≡ start s) × (setupInRange s ≡ true → Consistent (first s e h c))
+started s e h c te hh hc =
+    (stands, λ r. record { inRange = subst InRange (sym stands) (start-in-range s r); current = rw te; figures = record { hcnox = rw te hh; co = rw te hc } })
   where
     stands : record { setup = s; standards = s .standards; period = 1; tested = tested e; stored = 0; declared = false } ≡ start s
     stands = rw te

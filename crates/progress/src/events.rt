@@ -12,11 +12,10 @@ use year::Event;
 use year::Pair;
 use year::Setup;
 
-// A setup with no events.
+// A setup with no events, in range or not.
 pub fn start(setup: Setup) -> Progress
-    requires { ⌜ setupInRange setup ≡ true ⌝ }
     ensures { λ r. ⌜ shown r ≡ start setup ⌝ }
-    ensures { λ r. ⌜ Consistent r ⌝ }
+    ensures { λ r. ⌜ (setupInRange setup ≡ true → Consistent r) ⌝ }
 {
     let standards = setup.standards;
     Progress {

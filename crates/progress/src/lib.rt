@@ -1,9 +1,6 @@
 // The progress of a model year in code: one value that is carried from event to event. The definitions are those of the crate year.
-pub mod admissible;
 pub mod events;
 pub mod rework;
-pub mod status;
-pub mod verdict;
 
 use engines::Engines;
 use figures::Running;

@@ -17,7 +17,7 @@ returns : tie.Need-returns
 returns c =
     let e = c .before .before in
     let s = e .before .before in
-    started (s .args .setup) (e .no-engines .result) (c .before .start .result) (c .start2 .result) (s .pre)
+    started (s .args .setup) (e .no-engines .result) (c .before .start .result) (c .start2 .result)
     (e .no-engines .ensures) (c .before .start .ensures 1024) (c .start2 .ensures 1024)
 
 pub start-spec : {M : Type 1} → statement M

@@ -1,6 +1,7 @@
 -- `work::enter_all` meets its contract. Assumes nothing.
 use Prim.Native.Nat.{_-_, _^_, _≤_, _<_}
 use native.Mathlib.Omega.{arith}
+use borrow.Author.Needs.{needs}
 use lib.ListN.{length}
 use Rattle.progress.specs.State.{Consistent}
 use Rattle.worked_years.proofs.work.enter_all.Statement.{statement}
@@ -13,10 +14,10 @@ abbrev μ-loop : tie.MeasureT-loop
 μ-loop numbers p₀ at₀ p at = length numbers - at
 
 start-requires : tie.Need-start-requires Inv-loop μ-loop
-start-requires c κs = c .before .pre
+start-requires c κs = search needs
 
 loop-holds : tie.Need-loop-holds Inv-loop μ-loop
-loop-holds c = (c .start .ensures .1, omega arith, omega arith)
+loop-holds c = (c .start .ensures .1 (c .before .before .pre), omega arith, omega arith)
 
 sub-loop : tie.Need-sub-loop Inv-loop μ-loop
 sub-loop c = omega arith

@@ -1,7 +1,7 @@
 -- `verdict::verdict` meets its contract. Assumes nothing.
 use borrow.Author.Needs.{needs}
-use Rattle.progress.proofs.verdict.verdict.Statement.{statement}
-use Rattle.progress.proofs.verdict.verdict.Tie as tie
+use Rattle.verdicts.proofs.verdict.verdict.Statement.{statement}
+use Rattle.verdicts.proofs.verdict.verdict.Tie as tie
 
 verdict-by-requires : tie.Need-verdict-by-requires
 verdict-by-requires c κs = search needs

@@ -1,7 +1,7 @@
 -- `verdict::is_short` meets its contract. Assumes nothing.
 use borrow.Author.Needs.{needs}
-use Rattle.progress.proofs.verdict.is_short.Statement.{statement}
-use Rattle.progress.proofs.verdict.is_short.Tie as tie
+use Rattle.verdicts.proofs.verdict.is_short.Statement.{statement}
+use Rattle.verdicts.proofs.verdict.is_short.Tie as tie
 
 needs-requires : tie.Need-needs-requires
 needs-requires c κs = search needs

@@ -1,7 +1,7 @@
 -- `admissible::results_in_range` meets its contract. Assumes nothing.
 use borrow.Author.Needs.{needs}
-use Rattle.progress.proofs.admissible.results_in_range.Statement.{statement}
-use Rattle.progress.proofs.admissible.results_in_range.Tie as tie
+use Rattle.verdicts.proofs.admissible.results_in_range.Statement.{statement}
+use Rattle.verdicts.proofs.admissible.results_in_range.Tie as tie
 
 cast-result-in-range : tie.Need-cast-result-in-range
 cast-result-in-range c = search needs

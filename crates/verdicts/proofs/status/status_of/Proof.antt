@@ -3,10 +3,10 @@ use Rattle.year.specs.Setup.{Hcnox, Co}
 use Rattle.year.specs.Replay.{history}
 use Rattle.engines.specs.Engines.{tested}
 use native.Mathlib.Omega.{arith}
 use Rattle.progress.proofs.Carried.{counted, count-le, shown-fits}
 use borrow.Author.Needs.{needs}
-use Rattle.progress.proofs.status.status_of.Statement.{statement}
-use Rattle.progress.proofs.status.status_of.Tie as tie
+use Rattle.verdicts.proofs.status.status_of.Statement.{statement}
+use Rattle.verdicts.proofs.status.status_of.Tie as tie
 
 cast-t4 : tie.Need-cast-t4
 cast-t4 c = let s = c .before .before .before in omega (arith, count-le (s .args .p) (s .pre))

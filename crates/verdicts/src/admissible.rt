@@ -1,14 +1,14 @@
 // Whether an event could be entered.
 ghost use mathlib.Core.Path.{_≡_};
 ghost use Rattle.year.specs.Admissible.{numberInRange, resultsInRange, fits, admissible};
 ghost use Rattle.progress.specs.State.{shown, Consistent};
-use crate::Progress;
 use crate::verdict::closed;
 use crate::verdict::is_short;
 use buffers::both;
 use buffers::either;
 use buffers::within;
 use engines::lookup::is_tested;
+use progress::Progress;
 use rounding::count_in_range;
 use rounding::result_in_range;
 use schedule::periods;

@@ -2,8 +2,8 @@
 use Rattle.year.specs.Admissible.{admissible}
 use Rattle.buffers.proofs.Tests.{ltb-not-leb}
 use borrow.Author.Needs.{needs}
-use Rattle.progress.proofs.admissible.is_admissible.Statement.{statement}
-use Rattle.progress.proofs.admissible.is_admissible.Tie as tie
+use Rattle.verdicts.proofs.admissible.is_admissible.Statement.{statement}
+use Rattle.verdicts.proofs.admissible.is_admissible.Tie as tie
 
 closed-requires : tie.Need-closed-requires
 closed-requires c κs = search needs

@@ -1,10 +1,10 @@
 // The status.
 ghost use mathlib.Core.Path.{_≡_};
 ghost use Rattle.year.specs.Status.{status};
 ghost use Rattle.progress.specs.State.{shown, Consistent};
-use crate::Progress;
 use crate::verdict::verdict;
 use engines::summary::figures_of;
+use progress::Progress;
 use year::Status;
 
 // The calculator's status, at resolution 1,024.

@@ -1,9 +1,9 @@
 -- `admissible::engine_fits` meets its contract. Assumes nothing.
 use Rattle.buffers.proofs.Tests.{ltb-not-leb}
 use Rattle.progress.proofs.Carried.{count-le, counted}
 use borrow.Author.Needs.{needs}
-use Rattle.progress.proofs.admissible.engine_fits.Statement.{statement}
-use Rattle.progress.proofs.admissible.engine_fits.Tie as tie
+use Rattle.verdicts.proofs.admissible.engine_fits.Statement.{statement}
+use Rattle.verdicts.proofs.admissible.engine_fits.Tie as tie
 
 number-in-range-requires : tie.Need-number-in-range-requires
 number-in-range-requires c κs = search needs

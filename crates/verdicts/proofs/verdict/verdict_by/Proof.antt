@@ -3,10 +3,10 @@ use Rattle.year.specs.Setup.{Hcnox, Co}
 use Rattle.year.specs.Replay.{history}
 use Rattle.year.specs.Verdict.{verdict}
 use Rattle.engines.specs.Engines.{tested}
 use Rattle.progress.proofs.Carried.{counted, shown-fits, failed-is, undecided-is}
 use borrow.Author.Needs.{needs}
-use Rattle.progress.proofs.verdict.verdict_by.Statement.{statement}
-use Rattle.progress.proofs.verdict.verdict_by.Tie as tie
+use Rattle.verdicts.proofs.verdict.verdict_by.Statement.{statement}
+use Rattle.verdicts.proofs.verdict.verdict_by.Tie as tie
 
 either-requires : tie.Need-either-requires
 either-requires c κs = search needs

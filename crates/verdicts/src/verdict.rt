@@ -6,12 +6,12 @@ ghost use Rattle.buffers.specs.Rows.{first};
 ghost use Rattle.year.specs.Periods.{needs};
 ghost use Rattle.year.specs.Verdict.{verdictTable, verdict};
 ghost use Rattle.year.specs.Admissible.{closed};
 ghost use Rattle.progress.specs.State.{shown, Figured, Consistent, Judged};
-use crate::Progress;
 use buffers::both;
 use buffers::either;
 use engines::summary::reached;
 use figures::Running;
+use progress::Progress;
 use schedule::needs;
 use schedule::one_percent;
 

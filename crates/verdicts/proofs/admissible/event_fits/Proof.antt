@@ -1,7 +1,7 @@
 -- `admissible::event_fits` meets its contract. Assumes nothing.
 use borrow.Author.Needs.{needs}
-use Rattle.progress.proofs.admissible.event_fits.Statement.{statement}
-use Rattle.progress.proofs.admissible.event_fits.Tie as tie
+use Rattle.verdicts.proofs.admissible.event_fits.Statement.{statement}
+use Rattle.verdicts.proofs.admissible.event_fits.Tie as tie
 
 enum-known-e : tie.Need-enum-known-e
 enum-known-e c = search needs
