@@ -33,3 +33,7 @@ same [] [] = true
 same [] (y ∷ ys) = false
 same (x ∷ xs) [] = false
 same (x ∷ xs) (y ∷ ys) = eqb x y && same xs ys
+
+-- whether every byte is zero
+abbrev pub isZero : List ℕ → Bool
+isZero bytes = same (zeros (length bytes)) bytes

@@ -1,4 +1,7 @@
-// Shared by every crate: a range, and two tests joined. (Written as functions, since what is known of a test is lost where `&&` or `||` joins it in a local.)
+// Shared by every crate: a range, two tests joined, and in the modules what reads and writes lent bytes. (Written as functions, since what is known of a test is lost where `&&` or `||` joins it in a local.)
+pub mod little_endian;
+pub mod parts;
+
 ghost use mathlib.Core.Path.{_≡_};
 ghost use mathlib.Core.Bool.{_&&_, _||_};
 ghost use Rattle.buffers.specs.Numbers.{within};

@@ -15,12 +15,12 @@ use Rattle.year.specs.declared.Setup.{Setup}
 use Rattle.year.specs.declared.Event.{Event}
 use Rattle.year.specs.Replay.{replay}
 use Rattle.year.specs.Admissible.{admissible, valid}
-use Rattle.year.specs.Model.{NoSetup, Year}
+use Rattle.year.specs.Model.{Model, NoSetup, Year}
 use Rattle.year.proofs.Replayed.{replay-stored}
 use Rattle.year.proofs.Ranges.{valid-in-range}
 use Rattle.journal.specs.Encode.{header, slotOf, slots, encode, slotPlace}
 use Rattle.journal.specs.Read.{setupIn, eventIn, eventsIn, readAs, readJournal}
-use Rattle.journal.specs.Acceptance.{isHeader, isSlot, entersAt, entersUpTo, isZero, Acceptable}
+use Rattle.journal.specs.Acceptance.{isHeader, isSlot, entersAt, entersUpTo, Acceptable}
 use Rattle.journal.proofs.Encoded.{length-slots, length-encode}
 use Rattle.journal.proofs.Reading.{no-year}
 
@@ -134,3 +134,11 @@ module _ (journal : List ℕ) where
       let size : length journal ≡ 544
       = sym (ap length (same-equal (encode s es) journal (stored .0))) ∙ length-encode s es (omega (arith, length-events journal count)) in
       record { size = size; header = front .0; count = few; events = parts .1; unused = rw (rest-length size) (front .1) }
+
+  -- a buffer of which some part is not so is not accepted
+  pub not-acceptable : (Acceptable journal → ⊥) → readJournal journal ≡ NoSetup
+  not-acceptable f = by (readJournal journal) refl
+    where
+      by : (m : Model) → readJournal journal ≡ m → m ≡ NoSetup
+      by NoSetup e = refl
+      by (Year t fs) e = absurd (f (read-acceptable t fs e))

@@ -11,7 +11,7 @@ use lib.Seq.{drop-at, drop-drop}
 use borrow.Author.Tests.{leb-true}
 use Rattle.buffers.specs.Bytes.{zeros, same}
 use Rattle.buffers.specs.Numbers.{within}
-use Rattle.buffers.proofs.Numbers.{from-two, from-four}
+use Rattle.buffers.proofs.LittleEndian.{from-two, from-four}
 use Rattle.buffers.proofs.Same.{same-refl, same-equal}
 use Rattle.rounding.specs.declared.Factor.{Factor}
 use Rattle.rounding.specs.Result.{factorInRange, resultInRange}

@@ -6,7 +6,7 @@ use mathlib.Core.Bool.{Bool, true, _&&_}
 use mathlib.Core.List.{List}
 use Prim.Native.Nat.{ℕ, zero, suc, _≤_}
 use lib.ListN.{length, getD, take, drop}
-use Rattle.buffers.specs.Bytes.{zeros, same}
+use Rattle.buffers.specs.Bytes.{same, isZero}
 use Rattle.year.specs.Setup.{setupInRange}
 use Rattle.year.specs.Replay.{replay}
 use Rattle.year.specs.Admissible.{admissible}
@@ -30,10 +30,6 @@ entersAt journal j =
 abbrev pub entersUpTo : List ℕ → ℕ → Bool
 entersUpTo journal zero = setupInRange (setupIn journal)
 entersUpTo journal (suc j) = entersUpTo journal j && entersAt journal j
-
--- every byte of a part is zero
-abbrev pub isZero : List ℕ → Bool
-isZero part = same (zeros (length part)) part
 
 pub record Acceptable (journal : List ℕ) : Type 0 where
   pub size : length journal ≡ 544

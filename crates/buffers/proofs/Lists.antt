@@ -1,0 +1,65 @@
+-- Lists of numbers: zeros, parts as their elements, stores, and parts that are lent and come back.
+-- Assumes nothing.
+use mathlib.Core.Path.{_≡_, refl, sym, ap, _∙_}
+use mathlib.Core.Bool.{Bool, true, false}
+use mathlib.Core.List.{List, [], _∷_, _++_, append-nil, append-assoc}
+use Prim.Native.Nat.{ℕ, zero, suc, _+_, _-_, _≤_, _<_}
+use native.Mathlib.Numerals.{add-one}
+use native.Mathlib.Omega.{arith}
+use lib.ListN.{length, getD, take, drop, set, drop-of-length-le, length-append, length-take, length-drop}
+use lib.Seq.{sets, sets-eq, set-split, drop-cons, append-snoc}
+use borrow.Author.Tests.{ne-eqb}
+use borrow.Rule.Slice.PartMut.{putMid, post-is}
+use Rattle.buffers.specs.Bytes.{put, zeros, isZero}
+
+-- ---- whether all is zero, one element after another
+
+module _ (xs : List ℕ) (i : ℕ) where
+  pub zero-stop : i < length xs → (getD xs i 0 ≡ 0 → ⊥) → isZero (drop i xs) ≡ false
+  zero-stop h e = rw (drop-cons xs i 0 h, ne-eqb 0 (getD xs i 0) (λ z. e (cc)))
+
+  pub zero-go : i < length xs → getD xs i 0 ≡ 0 → isZero (drop (i + 1) xs) ≡ isZero (drop i xs)
+  zero-go h e = rw (drop-cons xs i 0 h, e, add-one i)
+
+  pub zero-end : length xs ≤ i → isZero (drop i xs) ≡ true
+  zero-end h = rw (drop-of-length-le xs h)
+
+-- a list that was filled with zeros up to its end
+pub filled : (xs : List ℕ) (i : ℕ) → i ≤ length xs → length xs ≤ i → zeros i ++ drop i xs ≡ zeros (length xs)
+filled xs i h k =
+    let n : i ≡ length xs = omega arith in
+    ap (λ (r : List ℕ). zeros i ++ r) (drop-of-length-le xs k) ∙ append-nil (zeros i) ∙ ap zeros n
+
+-- ---- a part as its elements one by one
+
+abbrev pub elements : List ℕ → ℕ → ℕ → List ℕ
+elements xs i zero = []
+elements xs i (suc n) = getD xs i 0 ∷ elements xs (i + 1) n
+
+pub part-elements : (xs : List ℕ) (i n : ℕ) → i + n ≤ length xs → take n (drop i xs) ≡ elements xs i n
+part-elements xs i zero h = refl
+part-elements xs i (suc n) h =
+    rw (drop-cons xs i 0 (omega arith), ← add-one i) (ap (λ (r : List ℕ). getD xs i 0 ∷ r) (part-elements xs (i + 1) n (omega arith)))
+
+-- ---- a list overwritten from its front to its end is what was written
+pub sets-all : (xs vs : List ℕ) → length xs ≡ length vs → sets xs 0 vs ≡ vs
+sets-all xs vs h =
+    let rest : drop (0 + length vs) xs ≡ [] = drop-of-length-le xs {i = 0 + length vs} (omega arith) in
+    sets-eq vs xs 0 (omega arith) ∙ rw rest (append-nil vs)
+
+-- ---- a part that was lent and comes back, and a store, as bytes put over a buffer's own
+
+module _ (buffer : List ℕ) (place : ℕ) where
+  pub put-part : (end : ℕ) (bytes : List ℕ) → place + length bytes ≡ end → putMid place (end - place) buffer bytes ≡ put buffer place bytes
+  unfolding put
+  put-part end bytes h =
+      rw (post-is place end buffer (omega arith), h) (sym (append-assoc (take place buffer) bytes (drop end buffer)))
+
+  pub put-one : (byte : ℕ) → place < length buffer → set buffer place byte ≡ put buffer place (byte ∷ [])
+  unfolding put
+  put-one byte h =
+      rw (set-split buffer place byte h, add-one place) (sym (append-snoc (take place buffer) byte (drop (suc place) buffer)))
+
+  pub length-put : (bytes : List ℕ) → place + length bytes ≤ length buffer → length (put buffer place bytes) ≡ length buffer
+  unfolding put
+  length-put bytes h = simp (length-append, length-take, length-drop) (omega arith)

@@ -1,0 +1,53 @@
+-- `writing::write_factors` meets its contract. Assumes nothing.
+use borrow.Author.Needs.{needs}
+use Rattle.codec.proofs.writing.write_factors.Statement.{statement}
+use Rattle.codec.proofs.writing.write_factors.Tie as tie
+
+low-byte-requires : tie.Need-low-byte-requires
+low-byte-requires c κs = search needs
+
+high-byte-requires : tie.Need-high-byte-requires
+high-byte-requires c κs = search needs
+
+cast-write-eight : tie.Need-cast-write-eight
+cast-write-eight c = search needs
+
+cast-write-eight-2 : tie.Need-cast-write-eight-2
+cast-write-eight-2 c = search needs
+
+low-byte-requires-2 : tie.Need-low-byte-requires-2
+low-byte-requires-2 c κs = search needs
+
+high-byte-requires-2 : tie.Need-high-byte-requires-2
+high-byte-requires-2 c κs = search needs
+
+low-byte-requires-3 : tie.Need-low-byte-requires-3
+low-byte-requires-3 c κs = search needs
+
+high-byte-requires-3 : tie.Need-high-byte-requires-3
+high-byte-requires-3 c κs = search needs
+
+write-eight-requires : tie.Need-write-eight-requires
+write-eight-requires c κs = search needs
+
+same-length : tie.Need-same-length
+same-length c = search needs
+
+returns : tie.Need-returns
+returns c = cc
+
+pub write-factors-spec : {M : Type 1} → statement M
+write-factors-spec =
+    tie.close
+    (tie.spec
+    low-byte-requires
+    high-byte-requires
+    cast-write-eight
+    cast-write-eight-2
+    low-byte-requires-2
+    high-byte-requires-2
+    low-byte-requires-3
+    high-byte-requires-3
+    write-eight-requires
+    same-length
+    returns)
