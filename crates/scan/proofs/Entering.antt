@@ -1,0 +1,115 @@
+-- The slots entered one after another: what the state is after the first of them, and what one more tells.
+-- Assumes nothing.
+use mathlib.Core.Path.{_≡_, refl, sym, ap, subst, _∙_}
+use mathlib.Core.Bool.{Bool, true, false, _&&_, true≢false, and-eq-true-iff}
+use mathlib.Core.List.{List, [], _∷_}
+use Prim.Native.Nat.{ℕ, zero, suc, _+_, _-_, _≤_, _<_}
+use native.Mathlib.Decide.{decLt}
+use native.Mathlib.Numerals.{add-one}
+use native.Mathlib.Omega.{arith}
+use lib.ListN.{length, getD, take, drop, length-drop}
+use lib.Seq.{take-all}
+use Rattle.buffers.specs.Bytes.{isZero}
+use Rattle.year.specs.declared.Setup.{Setup}
+use Rattle.year.specs.declared.Event.{Event}
+use Rattle.year.specs.Setup.{setupInRange}
+use Rattle.year.specs.Replay.{Progress, start, after, replay}
+use Rattle.year.specs.Admissible.{admissible}
+use Rattle.year.specs.Model.{Model, NoSetup, Year}
+use Rattle.journal.specs.Encode.{slotPlace}
+use Rattle.journal.specs.Read.{setupIn, eventIn, eventsIn, readJournal}
+use Rattle.journal.specs.Acceptance.{isHeader, isSlot, entersAt, entersUpTo, Acceptable}
+use Rattle.journal.proofs.Exactly.{acceptable-read, not-acceptable}
+use Rattle.progress.specs.declared.Progress.{Progress as State}
+use Rattle.progress.specs.State.{shown, Consistent}
+use Rattle.scan.specs.declared.Scanned.{Scanned}
+use Rattle.scan.specs.Scan.{Tells, entered}
+
+-- the first slots were entered, and the state stands for their events
+pub record Entered (journal : List ℕ) (j : ℕ) (p : State) : Type 0 where
+  pub enters : entersUpTo journal j ≡ true
+  pub stands : shown p ≡ replay (setupIn journal) (eventsIn journal j)
+  pub consistent : Consistent p
+
+-- where one slot does not enter, the slots up to a later one do not
+later : (journal : List ℕ) (j n : ℕ) → j < n → entersAt journal j ≡ false → entersUpTo journal n ≡ true → ⊥
+later journal j zero l f h = omega arith
+later journal j (suc n) l f h =
+    let parts = and-eq-true-iff (entersUpTo journal n) (entersAt journal n) .0 h in
+    by (decLt j n) (λ k. later journal j n k f (parts .0)) (parts .1)
+  where
+    by : Dec (j < n) → (j < n → ⊥) → entersAt journal n ≡ true → ⊥
+    by (yes k) g t = g k
+    by (no k) g t =
+        let same : j ≡ n = omega arith in
+        true≢false (sym t ∙ ap (entersAt journal) (sym same) ∙ f)
+
+not-true : (b : Bool) → (b ≡ true → ⊥) → b ≡ false
+not-true true f = absurd (f refl)
+not-true false f = refl
+
+module _ (journal : List ℕ) (n : ℕ) where
+  pub none-entered : entersUpTo journal n ≡ false → entered journal n ≡ NoSetup
+  unfolding entered
+  none-entered h = rw h
+
+  pub all-entered : entersUpTo journal n ≡ true → entered journal n ≡ Year (setupIn journal) (eventsIn journal n)
+  unfolding entered
+  all-entered h = rw h
+
+  -- a slot that does not enter ends it
+  stopped : (j : ℕ) → j < n → entersAt journal j ≡ false → entered journal n ≡ NoSetup
+  stopped j l f = none-entered (not-true (entersUpTo journal n) (later journal j n l f))
+
+  -- the last slot was entered
+  pub finished : (j : ℕ) (p : State) → j ≤ n → n ≤ j → Entered journal j p → Tells (record { accepted = true; progress = p }) (entered journal n)
+  finished j p l m u =
+      let same : j ≡ n = omega arith in
+      let v = subst (λ k. Entered journal k p) same u in
+      rw (all-entered (v .enters)) (record { accepted = refl; year = v .stands; consistent = λ _. v .consistent })
+
+-- the setup and what the code found of it
+module _ (journal : List ℕ) (s : Setup) (r : Bool) (e : s ≡ setupIn journal) (t : r ≡ setupInRange s) where
+  setup-is : setupInRange (setupIn journal) ≡ r
+  setup-is = sym (ap setupInRange e) ∙ sym t
+
+  -- out of range: no slot is entered, however few
+  pub no-setup : (n : ℕ) → r ≡ false → entered journal n ≡ NoSetup
+  no-setup n h = none-entered journal n (by n)
+    where
+      by : (n : ℕ) → entersUpTo journal n ≡ false
+      by zero = setup-is ∙ h
+      by (suc n) = rw (by n)
+
+  pub started : (p : State) → r ≡ true → shown p ≡ start s → (setupInRange s ≡ true → Consistent p) → Entered journal 0 p
+  started p h g c = record { enters = setup-is ∙ h; stands = g ∙ ap start e; consistent = c (sym t ∙ h) }
+
+-- the part that starts at a place is the journal without what comes before
+pub part-from : (journal : List ℕ) (place : ℕ) → take (length journal - place) (drop place journal) ≡ drop place journal
+part-from journal place = take-all (length journal - place) (drop place journal) (omega (arith, length-drop place journal))
+
+pub part-long : (journal : List ℕ) (j : ℕ) → length journal ≡ 544 → j < 64 → 8 ≤ length (take (length journal - slotPlace j) (drop (slotPlace j) journal))
+part-long journal j n h = rw (part-from journal (slotPlace j)) (omega (arith, length-drop (slotPlace j) journal))
+
+-- ---- one slot: what the code found of its part
+
+module _ (journal : List ℕ) (j : ℕ) (p : State) (u : Entered journal j p) where
+  abbrev part : List ℕ
+  part = take (length journal - slotPlace j) (drop (slotPlace j) journal)
+
+  module _ (e : Event) (slot fits : Bool) (he : e ≡ eventIn part) (hs : slot ≡ isSlot part) (hf : fits ≡ admissible (shown p) e) where
+    slot-is : (slot && fits) ≡ entersAt journal j
+    unfolding entersAt
+    slot-is = rw (hs, hf, he, part-from journal (slotPlace j), u .stands)
+
+    pub no-entry : (n : ℕ) → j < n → (slot && fits) ≡ false → entered journal n ≡ NoSetup
+    no-entry n l t = stopped journal n j l (sym slot-is ∙ t)
+
+    pub entry : (q : State) → (slot && fits) ≡ true → shown q ≡ after e (shown p) → Consistent q → Entered journal (j + 1) q
+    entry q t s c =
+        rw (add-one j)
+        (record {
+          enters = and-eq-true-iff (entersUpTo journal j) (entersAt journal j) .1 (u .enters, sym slot-is ∙ t);
+          stands = s ∙ rw (he, part-from journal (slotPlace j), u .stands);
+          consistent = c;
+        })

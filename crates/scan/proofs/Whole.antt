@@ -1,0 +1,47 @@
+-- The tests of a whole buffer, as the code makes them: size, number of events, header and unused slots, and then the events.
+-- Assumes nothing.
+use mathlib.Core.Path.{_≡_, refl, sym, _∙_}
+use mathlib.Core.Bool.{Bool, true, false, _&&_, true≢false, and-eq-true-iff}
+use mathlib.Core.List.{List}
+use Prim.Native.Nat.{ℕ, _-_, _≤_, _<_}
+use native.Mathlib.Omega.{arith}
+use lib.ListN.{length, getD, take, drop}
+use Rattle.buffers.specs.Bytes.{isZero}
+use Rattle.buffers.proofs.Tests.{and-true}
+use Rattle.year.specs.Model.{NoSetup}
+use Rattle.journal.specs.Encode.{slotPlace}
+use Rattle.journal.specs.Read.{readJournal}
+use Rattle.journal.specs.Acceptance.{isHeader, entersUpTo}
+use Rattle.journal.proofs.Exactly.{acceptable-read, not-acceptable}
+use Rattle.scan.specs.Scan.{entered}
+use Rattle.scan.proofs.Entering.{none-entered, all-entered, part-from}
+
+module _ (journal : List ℕ) where
+  abbrev count : ℕ
+  count = getD journal 24 0
+
+  pub other-size : (length journal ≡ 544 → ⊥) → readJournal journal ≡ NoSetup
+  other-size f = not-acceptable journal (λ p. f (p .size))
+
+  pub too-many : 64 < count → readJournal journal ≡ NoSetup
+  too-many h = not-acceptable journal (λ p. omega (arith, p .count))
+
+  module _ (header zero : Bool) (eh : header ≡ isHeader journal)
+      (ez : zero ≡ isZero (take (length journal - slotPlace count) (drop (slotPlace count) journal))) where
+    unused-is : zero ≡ isZero (drop (slotPlace count) journal)
+    unused-is = rw (part-from journal (slotPlace count)) at ez
+
+    pub other-bytes : (header && zero) ≡ false → readJournal journal ≡ NoSetup
+    other-bytes h = not-acceptable journal (λ p. true≢false (sym (and-true (eh ∙ p .header) (unused-is ∙ p .unused)) ∙ h))
+
+    pub by-events : length journal ≡ 544 → count ≤ 64 → (header && zero) ≡ true → entered journal count ≡ readJournal journal
+    by-events n few h = by (entersUpTo journal count) refl
+      where
+        parts : (header ≡ true) × (zero ≡ true)
+        parts = and-eq-true-iff header zero .0 h
+
+        by : (b : Bool) → entersUpTo journal count ≡ b → entered journal count ≡ readJournal journal
+        by true e =
+            all-entered journal count e
+            ∙ sym (acceptable-read journal (record { size = n; header = sym eh ∙ parts .0; count = few; events = e; unused = sym unused-is ∙ parts .1 }))
+        by false e = none-entered journal count e ∙ sym (not-acceptable journal (λ p. true≢false (sym (p .events) ∙ e)))

@@ -1,0 +1,41 @@
+-- What the scan of a buffer tells: whether it is an accepted journal, and the state of the year that it is read as.
+-- Assumes nothing.
+use mathlib.Core.Path.{_≡_}
+use mathlib.Core.Bool.{Bool, true, false, cond}
+use mathlib.Core.List.{List}
+use Prim.Native.Nat.{ℕ}
+use Rattle.year.specs.declared.Setup.{Setup}
+use Rattle.year.specs.Replay.{Progress, start, replay}
+use Rattle.year.specs.Model.{Model, NoSetup, Year}
+use Rattle.journal.specs.Read.{setupIn, eventsIn}
+use Rattle.journal.specs.Acceptance.{entersUpTo}
+use Rattle.progress.specs.State.{shown, Consistent}
+use Rattle.scan.specs.declared.Scanned.{Scanned}
+
+abbrev pub isYear : Model → Bool
+isYear NoSetup = false
+isYear (Year s es) = true
+
+-- a setup of zeros, which is out of range
+abbrev pub zeroSetup : Setup
+zeroSetup =
+    record {
+      volume = 0;
+      days = 0;
+      standards = record { hcnox = 0; co = 0 };
+      factors = record { hcnox = record { kind = 0; value = 0 }; co = record { kind = 0; value = 0 } };
+    }
+
+abbrev pub progressOf : Model → Progress
+progressOf NoSetup = start zeroSetup
+progressOf (Year s es) = replay s es
+
+pub record Tells (r : Scanned) (model : Model) : Type 0 where
+  pub accepted : r .accepted ≡ isYear model
+  pub year : shown (r .progress) ≡ progressOf model
+  -- of an accepted journal, what the state carries beside the year is worked from it
+  pub consistent : r .accepted ≡ true → Consistent (r .progress)
+
+-- the setup and the events of the first slots, if they could have been entered in that order
+unfoldable pub entered : List ℕ → ℕ → Model
+entered journal count = cond (entersUpTo journal count) (Year (setupIn journal) (eventsIn journal count)) NoSetup

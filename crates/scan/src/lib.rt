@@ -1,0 +1,92 @@
+// A buffer of any length and content read as a journal, from its first event to its last.
+ghost use mathlib.Core.Path.{_≡_};
+ghost use Prim.Native.Nat.{_≤_};
+ghost use lib.ListN.{length};
+ghost use Rattle.year.specs.Model.{NoSetup};
+ghost use Rattle.journal.specs.Read.{readJournal};
+ghost use Rattle.scan.specs.Scan.{Tells, entered};
+use buffers::both;
+use buffers::parts::is_zero;
+use codec::reading::event_at;
+use codec::reading::is_header;
+use codec::reading::is_slot;
+use codec::reading::setup_in;
+use progress::Progress;
+use progress::events::after;
+use progress::events::start;
+use rounding::Factor;
+use schedule::setup_in_range;
+use verdicts::admissible::is_admissible;
+use year::Factors;
+use year::Pair;
+use year::Setup;
+
+// Whether a buffer is an accepted journal, and the state of the year that it holds.
+pub struct Scanned {
+    pub accepted: bool,
+    pub progress: Progress,
+}
+
+// The answer for a buffer that is no accepted journal: the state beside it is that of a setup of zeros, which no journal holds.
+fn no_journal() -> Scanned
+    ensures { λ r. ⌜ Tells r NoSetup ⌝ }
+{
+    let none = Factor { kind: 0, value: 0 };
+    let setup = Setup {
+        volume: 0,
+        days: 0,
+        standards: Pair { hcnox: 0, co: 0 },
+        factors: Factors {
+            hcnox: none,
+            co: none,
+        },
+    };
+    Scanned {
+        accepted: false,
+        progress: start(setup),
+    }
+}
+
+// The setup, and the events of the slots entered one after another.
+fn scan_events(journal: &[u8], count: usize) -> Scanned
+    requires { ⌜ (length (now journal) ≡ 544) × (count ≤ 64) ⌝ }
+    ensures { λ r. ⌜ Tells r (entered (now (journal .entry)) count) ⌝ }
+{
+    let setup = setup_in(journal);
+    if !setup_in_range(setup) {
+        return no_journal();
+    }
+    let mut p = start(setup);
+    let mut j = 0;
+    while j < count {
+        let at = 32 + 8 * j;
+        let e = event_at(&journal[at..]);
+        if !both(is_slot(&journal[at..]), is_admissible(p, e)) {
+            return no_journal();
+        }
+        p = after(p, e);
+        j += 1;
+    }
+    Scanned {
+        accepted: true,
+        progress: p,
+    }
+}
+
+// Whether a buffer is an accepted journal, with the state of what it is read as.
+pub fn scan_journal(journal: &[u8]) -> Scanned
+    ensures { λ r. ⌜ Tells r (readJournal (now (journal .entry))) ⌝ }
+{
+    if journal.len() != 544 {
+        return no_journal();
+    }
+    let count = journal[24] as usize;
+    if 64 < count {
+        return no_journal();
+    }
+    let unused = 32 + 8 * count;
+    if !both(is_header(journal), is_zero(&journal[unused..])) {
+        return no_journal();
+    }
+    scan_events(journal, count)
+}
