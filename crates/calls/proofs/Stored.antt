@@ -1,6 +1,6 @@
 -- Each call on the bytes of a journal is a step of the reference model: what the journal is read as after the call is the model's state after it.
 -- Assumes nothing.
-use mathlib.Core.Path.{_≡_, refl, sym, ap, _∙_}
+use mathlib.Core.Path.{_≡_, refl, ap, _∙_}
 use mathlib.Core.Bool.{Bool, true, false, cond}
 use mathlib.Core.List.{List, [], _∷_}
 use Prim.Native.Nat.{ℕ}
@@ -10,7 +10,6 @@ use borrow.Author.Tests.{eqb-true}
 use Rattle.year.specs.Admissible.{valid}
 use Rattle.year.specs.Model.{Model, NoSetup, Year}
 use Rattle.year.proofs.Valid.{valid-next}
-use Rattle.journal.specs.Encode.{encode}
 use Rattle.journal.specs.Read.{readJournal}
 use Rattle.journal.proofs.Cases.{cases}
 use Rattle.journal.proofs.OneJournal.{demand}

@@ -1,9 +1,6 @@
 -- Demand 2 of the stored form.
 -- Assumes nothing.
-use Prim.Native.Nat.{_≤_}
 use native.Mathlib.Omega.{arith}
-use lib.ListN.{length}
-use Rattle.year.specs.Replay.{replay}
 use Rattle.year.proofs.Replayed.{replay-stored}
 use Rattle.year.proofs.Ranges.{valid-in-range}
 use Rattle.journal.specs.OneJournal.{OneJournal}

@@ -1,27 +1,23 @@
 -- What was stored is read back, and what is read back was stored so.
 -- Assumes nothing.
-use mathlib.Core.Path.{_≡_, refl, sym, ap, subst, _∙_}
-use mathlib.Core.Bool.{Bool, true, false, cond, _&&_, _||_, and-eq-true-iff}
+use mathlib.Core.Path.{_≡_, refl, sym, ap, _∙_}
+use mathlib.Core.Bool.{Bool, true, false, cond, _&&_, and-eq-true-iff}
 use mathlib.Core.List.{List, [], _∷_, _++_, append-assoc}
-use Prim.Native.Nat.{ℕ, _+_, _*_, _≤_, _<_}
+use Prim.Native.Nat.{ℕ, _*_, _<_}
 use native.Mathlib.Omega.{arith}
-use lib.Dec.{eqb, leb}
 use lib.ListN.{length, getD, drop}
 use lib.Seq.{drop-at, drop-drop}
 use borrow.Author.Tests.{leb-true}
-use Rattle.buffers.specs.Bytes.{zeros, same}
-use Rattle.buffers.specs.Numbers.{within}
+use Rattle.buffers.specs.Bytes.{same}
 use Rattle.buffers.proofs.LittleEndian.{from-two, from-four}
 use Rattle.buffers.proofs.Same.{same-refl, same-equal}
-use Rattle.rounding.specs.declared.Factor.{Factor}
-use Rattle.rounding.specs.Result.{factorInRange, resultInRange}
 use Rattle.year.specs.declared.Setup.{Setup}
 use Rattle.year.specs.declared.Event.{Event}
 use Rattle.year.specs.declared.Event.the-variants.{Engine, Amendment, NextPeriod, Declaration}
-use Rattle.year.specs.Setup.{Hcnox, Co, of, factorOf, standardsInRange, productionInRange, factorsInRange, setupInRange}
+use Rattle.year.specs.Setup.{Hcnox, Co, setupInRange}
 use Rattle.year.specs.Replay.{Progress, replay}
 use Rattle.year.specs.Admissible.{admissible, valid}
-use Rattle.year.specs.Model.{Model, NoSetup, Year}
+use Rattle.year.specs.Model.{NoSetup, Year}
 use Rattle.year.proofs.Replayed.{replay-stored}
 use Rattle.year.proofs.Valid.{valid-before, valid-newest, valid-next}
 use Rattle.year.proofs.Ranges.{standard-le, engine-number, engine-results, not-full, fitting}

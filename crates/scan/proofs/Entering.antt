@@ -2,27 +2,24 @@
 -- Assumes nothing.
 use mathlib.Core.Path.{_≡_, refl, sym, ap, subst, _∙_}
 use mathlib.Core.Bool.{Bool, true, false, _&&_, true≢false, and-eq-true-iff}
-use mathlib.Core.List.{List, [], _∷_}
+use mathlib.Core.List.{List}
 use Prim.Native.Nat.{ℕ, zero, suc, _+_, _-_, _≤_, _<_}
 use native.Mathlib.Decide.{decLt}
 use native.Mathlib.Numerals.{add-one}
 use native.Mathlib.Omega.{arith}
-use lib.ListN.{length, getD, take, drop, length-drop}
+use lib.ListN.{length, take, drop, length-drop}
 use lib.Seq.{take-all}
-use Rattle.buffers.specs.Bytes.{isZero}
 use Rattle.year.specs.declared.Setup.{Setup}
 use Rattle.year.specs.declared.Event.{Event}
 use Rattle.year.specs.Setup.{setupInRange}
-use Rattle.year.specs.Replay.{Progress, start, after, replay}
+use Rattle.year.specs.Replay.{start, after, replay}
 use Rattle.year.specs.Admissible.{admissible}
-use Rattle.year.specs.Model.{Model, NoSetup, Year}
+use Rattle.year.specs.Model.{NoSetup, Year}
 use Rattle.journal.specs.Encode.{slotPlace}
-use Rattle.journal.specs.Read.{setupIn, eventIn, eventsIn, readJournal}
-use Rattle.journal.specs.Acceptance.{isHeader, isSlot, entersAt, entersUpTo, Acceptable}
-use Rattle.journal.proofs.Exactly.{acceptable-read, not-acceptable}
+use Rattle.journal.specs.Read.{setupIn, eventIn, eventsIn}
+use Rattle.journal.specs.Acceptance.{isSlot, entersAt, entersUpTo}
 use Rattle.progress.specs.declared.Progress.{Progress as State}
 use Rattle.progress.specs.State.{shown, Consistent}
-use Rattle.scan.specs.declared.Scanned.{Scanned}
 use Rattle.scan.specs.Scan.{Tells, entered}
 
 -- the first slots were entered, and the state stands for their events
@@ -87,9 +84,6 @@ module _ (journal : List ℕ) (s : Setup) (r : Bool) (e : s ≡ setupIn journal)
 -- the part that starts at a place is the journal without what comes before
 pub part-from : (journal : List ℕ) (place : ℕ) → take (length journal - place) (drop place journal) ≡ drop place journal
 part-from journal place = take-all (length journal - place) (drop place journal) (omega (arith, length-drop place journal))
-
-pub part-long : (journal : List ℕ) (j : ℕ) → length journal ≡ 544 → j < 64 → 8 ≤ length (take (length journal - slotPlace j) (drop (slotPlace j) journal))
-part-long journal j n h = rw (part-from journal (slotPlace j)) (omega (arith, length-drop (slotPlace j) journal))
 
 -- ---- one slot: what the code found of its part
 

@@ -88,13 +88,21 @@ module _ (p : Progress) (number readings : ℕ) (results : Pair) (h : admissible
   named : Bool
   named = numberInRange number && not (isTested number (p .tested)) && countInRange readings
 
+  is-named : named ≡ true
+  unfolding named
+  is-named = left named (resultsInRange results) (left (named && resultsInRange results) (not (enginesFull p)) (fitting p (Engine number readings results) h))
+
   pub engine-number : number ≤ 65535
   unfolding named
   engine-number =
       leb-true _ 65535 (right (leb 1 number) (leb number 65535)
       (left (numberInRange number) (not (isTested number (p .tested)))
-      (left (numberInRange number && not (isTested number (p .tested))) (countInRange readings)
-      (left named (resultsInRange results) (left (named && resultsInRange results) (not (enginesFull p)) (fitting p (Engine number readings results) h))))))
+      (left (numberInRange number && not (isTested number (p .tested))) (countInRange readings) is-named)))
+
+  pub engine-readings : readings ≤ 3
+  unfolding named
+  engine-readings =
+      leb-true _ 3 (right (leb 1 readings) (leb readings 3) (right (numberInRange number && not (isTested number (p .tested))) (countInRange readings) is-named))
 
   pub engine-room : length (p .tested) < 40
   unfolding named

@@ -1,6 +1,6 @@
 -- The bounds of a setup in range, so that its stored form and the code know what room its numbers need.
 -- Assumes nothing.
-use mathlib.Core.Path.{_≡_, refl, sym}
+use mathlib.Core.Path.{_≡_}
 use mathlib.Core.Bool.{Bool, true, _&&_, and-eq-true-iff}
 use Prim.Native.Nat.{ℕ, _≤_}
 use native.Mathlib.Omega.{arith}
@@ -11,7 +11,7 @@ use Rattle.buffers.proofs.Tests.{either-true}
 use Rattle.rounding.specs.declared.Factor.{Factor}
 use Rattle.rounding.specs.Result.{factorInRange}
 use Rattle.year.specs.declared.Setup.{Setup}
-use Rattle.year.specs.Setup.{Pollutant, Hcnox, Co, of, factorOf, standardsInRange, productionInRange, factorsInRange, setupInRange}
+use Rattle.year.specs.Setup.{Pollutant, of, factorOf, standardsInRange, productionInRange, factorsInRange, setupInRange}
 use Rattle.year.proofs.Ranges.{both-of, standard-le}
 
 within-le : (low high x : ℕ) → within low high x ≡ true → x ≤ high

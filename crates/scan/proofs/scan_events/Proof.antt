@@ -3,12 +3,12 @@ use mathlib.Core.Path.{sym, subst, _∙_}
 use mathlib.Core.Bool.{and-eq-true-iff}
 use Prim.Native.Nat.{_-_, _≤_}
 use native.Mathlib.Omega.{arith}
-use denote.Ref.{now}
+use lib.ListN.{length-take, length-drop}
 use borrow.Author.Needs.{needs}
 use borrow.Author.Tests.{not-true}
 use Rattle.buffers.proofs.Tests.{not-false}
 use Rattle.scan.specs.Scan.{Tells}
-use Rattle.scan.proofs.Entering.{Entered, finished, no-setup, started, part-long, no-entry, entry}
+use Rattle.scan.proofs.Entering.{Entered, finished, no-setup, started, no-entry, entry}
 use Rattle.scan.proofs.scan_events.Statement.{statement}
 use Rattle.scan.proofs.scan_events.Tie as tie
 
@@ -64,10 +64,7 @@ part-event-at-end : tie.Need-part-event-at-end Inv-loop μ-loop
 part-event-at-end c = omega arith
 
 event-at-requires : tie.Need-event-at-requires Inv-loop μ-loop
-event-at-requires c κs =
-    let l = c .before .before in
-    let s = l .before .before .before .before .before .before in
-    part-long (now (s .args .journal)) (l .loop .j) (s .pre .0) (omega arith)
+event-at-requires c κs = simp (length-take, length-drop) (omega arith)
 
 sub-is-slot : tie.Need-sub-is-slot Inv-loop μ-loop
 sub-is-slot c = omega arith
@@ -79,10 +76,7 @@ part-is-slot-end : tie.Need-part-is-slot-end Inv-loop μ-loop
 part-is-slot-end c = omega arith
 
 is-slot-requires : tie.Need-is-slot-requires Inv-loop μ-loop
-is-slot-requires c κs =
-    let l = c .before .before .before .before in
-    let s = l .before .before .before .before .before .before in
-    part-long (now (s .args .journal)) (l .loop .j) (s .pre .0) (omega arith)
+is-slot-requires c κs = simp (length-take, length-drop) (omega arith)
 
 is-admissible-requires : tie.Need-is-admissible-requires Inv-loop μ-loop
 is-admissible-requires c κs = c .before .before .before .before .before .loop .inv .2 .consistent

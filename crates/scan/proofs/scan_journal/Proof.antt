@@ -1,7 +1,6 @@
 -- `scan_journal` meets its contract: each test that fails refuses a part of an accepted journal, and where none does the events decide. Assumes nothing.
 use mathlib.Core.Path.{sym, subst, _∙_}
 use native.Mathlib.Omega.{arith}
-use denote.Ref.{now}
 use borrow.Author.Tests.{not-true}
 use Rattle.buffers.proofs.Tests.{not-false}
 use Rattle.scan.specs.Scan.{Tells}

@@ -1,12 +1,19 @@
 -- `verdict::closed` meets its contract. Assumes nothing.
-use mathlib.Core.Path.{sym}
+use mathlib.Core.Path.{_≡_, sym}
+use mathlib.Core.Bool.{_||_}
 use Rattle.year.specs.Setup.{Hcnox, Co}
+use Rattle.year.specs.Admissible.{closed}
 use Rattle.year.proofs.Closed.{closed-is}
-use Rattle.progress.specs.State.{shown}
+use Rattle.progress.specs.declared.Progress.{Progress}
+use Rattle.progress.specs.State.{shown, Consistent}
 use Rattle.progress.proofs.Carried.{failed-is}
 use borrow.Author.Needs.{needs}
 use Rattle.verdicts.proofs.verdict.closed.Statement.{statement}
 use Rattle.verdicts.proofs.verdict.closed.Tie as tie
+
+-- a year is closed by its declaration or by a failure that the figures carry
+by-flags : (p : Progress) → Consistent p → (p .declared || (p .hcnox .failed || p .co .failed)) ≡ closed (shown p)
+by-flags p c = rw (failed-is p c 1024 Hcnox (p .hcnox) (c .figures .hcnox), failed-is p c 1024 Co (p .co) (c .figures .co)) (sym (closed-is (shown p)))
 
 either-requires : tie.Need-either-requires
 either-requires c κs = search needs
@@ -17,8 +24,7 @@ either-requires-2 c κs = search needs
 returns : tie.Need-returns
 returns c =
     let s = c .before .before .before .before in
-    let p = s .args .p in
-    rw (c .either2 .ensures, c .before .either .ensures, failed-is p (s .pre) 1024 Hcnox (p .hcnox) (s .pre .figures .hcnox), failed-is p (s .pre) 1024 Co (p .co) (s .pre .figures .co)) (sym (closed-is (shown p)))
+    rw (c .either2 .ensures, c .before .either .ensures) (by-flags (s .args .p) (s .pre))
 
 pub closed-spec : {M : Type 1} → statement M
 closed-spec = tie.close (tie.spec either-requires either-requires-2 returns)

@@ -1,0 +1,39 @@
+-- The tests of each kind of slot, on a part that begins with one.
+-- Assumes nothing.
+use mathlib.Core.Path.{_≡_, refl}
+use mathlib.Core.Bool.{Bool, true, false, cond, _&&_, _||_, and-true}
+use mathlib.Core.List.{List}
+use Prim.Native.Nat.{ℕ, _≤_}
+use native.Mathlib.Omega.{arith}
+use lib.Dec.{eqb}
+use lib.ListN.{length, getD, take, drop}
+use borrow.Author.Tests.{ne-eqb, eqb-true}
+use Rattle.buffers.specs.Bytes.{same, isZero}
+use Rattle.buffers.proofs.Tests.{eqb-refl, eqb-sym}
+use Rattle.buffers.proofs.Lists.{part-elements}
+use Rattle.buffers.proofs.LittleEndian.{Bytes, low, high}
+use Rattle.year.specs.declared.Event.the-variants.{NextPeriod, Declaration}
+use Rattle.journal.specs.Encode.{slotOf}
+use Rattle.journal.specs.Acceptance.{isSlot}
+
+module _ (part : List ℕ) (bytes : Bytes part) (long : 8 ≤ length part) where
+  pub engine-slot : getD part 0 0 ≡ 1 → isSlot part ≡ true
+  unfolding isSlot
+  engine-slot e = rw (part-elements part 0 8 long, e) (simp (low part bytes, high part bytes, eqb-refl))
+
+  pub amendment-slot : getD part 0 0 ≡ 2 → (isZero (take 1 (drop 1 part)) && isZero (take 2 (drop 6 part))) ≡ isSlot part
+  unfolding isSlot
+  amendment-slot e =
+      rw (part-elements part 0 8 long, part-elements part 1 1 (omega arith), part-elements part 6 2 (omega arith), e)
+      (simp (low part bytes, high part bytes, eqb-refl, and-true))
+
+  -- any other kind than 3 is taken for 4
+  last-two : (t : Bool) → eqb (getD part 0 0) 3 ≡ t
+      → ((t || eqb (getD part 0 0) 4) && isZero (take 7 (drop 1 part))) ≡ same (slotOf (cond t NextPeriod Declaration)) (take 8 part)
+  last-two true h = rw (part-elements part 0 8 long, part-elements part 1 7 (omega arith), eqb-true (getD part 0 0) 3 h)
+  last-two false h = rw (part-elements part 0 8 long, part-elements part 1 7 (omega arith), eqb-sym (getD part 0 0) 4)
+
+  pub other-slot : (getD part 0 0 ≡ 1 → ⊥) → (getD part 0 0 ≡ 2 → ⊥)
+      → ((eqb (getD part 0 0) 3 || eqb (getD part 0 0) 4) && isZero (take 7 (drop 1 part))) ≡ isSlot part
+  unfolding isSlot
+  other-slot p q = rw (ne-eqb (getD part 0 0) 1 p, ne-eqb (getD part 0 0) 2 q) (last-two (eqb (getD part 0 0) 3) refl)
