@@ -43,8 +43,8 @@ returns c =
       r .both .ensures,
       r .before .is-tested .ensures,
       r .before .before .number-in-range .ensures,
-      ltb-not-leb (start .args .p .engines .count) 40,
       counted (start .args .p) (start .pre),
+      ← ltb-not-leb (start .args .p .engines .count) 40,
     )
 
 pub engine-fits-spec : {M : Type 1} → statement M

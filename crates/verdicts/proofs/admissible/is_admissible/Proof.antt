@@ -26,7 +26,7 @@ returns c =
       c .before .event-fits .ensures,
       c .before .before .both .ensures,
       c .before .before .before .before .closed .ensures,
-      ltb-not-leb (s .args .p .stored) 64,
+      ← ltb-not-leb (s .args .p .stored) 64,
     )
 
 pub is-admissible-spec : {M : Type 1} → statement M

@@ -52,9 +52,9 @@ returns c =
       e .either2 .ensures,
       undecided-is p k m Hcnox (s .args .hcnox) (f .hcnox),
       undecided-is p k m Co (s .args .co) (f .co),
-      e .before .either .ensures,
-      failed-is p k m Hcnox (s .args .hcnox) (f .hcnox),
-      failed-is p k m Co (s .args .co) (f .co),
+      ← failed-is p k m Hcnox (s .args .hcnox) (f .hcnox),
+      ← failed-is p k m Co (s .args .co) (f .co),
+      ← e .before .either .ensures,
       counted p k,
     )
 
