@@ -1,13 +1,14 @@
--- Lists of numbers: zeros, parts as their elements, stores, and parts that are lent and come back.
+-- Lists of numbers: zeros, parts, parts as their elements, stores, and parts that are lent and come back.
 -- Assumes nothing.
 use mathlib.Core.Path.{_≡_, refl, sym, ap, _∙_}
 use mathlib.Core.Bool.{true, false}
 use mathlib.Core.List.{List, [], _∷_, _++_, append-nil, append-assoc}
 use Prim.Native.Nat.{ℕ, zero, suc, _+_, _-_, _≤_, _<_}
+use native.Mathlib.Nat.{sub-zero, zero-sub, suc-sub-suc}
 use native.Mathlib.Numerals.{add-one}
 use native.Mathlib.Omega.{arith}
-use lib.ListN.{length, getD, take, drop, set, drop-of-length-le, length-append, length-take, length-drop}
-use lib.Seq.{sets, sets-eq, set-split, drop-cons, append-snoc}
+use lib.ListN.{length, getD, take, drop, set, drop-of-length-le, length-append, length-take, length-drop, length-replicate}
+use lib.Seq.{sets, sets-eq, set-split, drop-cons, append-snoc, take-all, take-nil}
 use borrow.Author.Tests.{ne-eqb}
 use borrow.Rule.Slice.PartMut.{putMid, post-is}
 use Rattle.buffers.specs.Bytes.{put, zeros, isZero}
@@ -29,6 +30,29 @@ pub filled : (xs : List ℕ) (i : ℕ) → i ≤ length xs → length xs ≤ i �
 filled xs i h k =
     let n : i ≡ length xs = omega arith in
     ap (λ (r : List ℕ). zeros i ++ r) (drop-of-length-le xs k) ∙ append-nil (zeros i) ∙ ap zeros n
+
+pub length-zeros : (n : ℕ) → length (zeros n) ≡ n
+length-zeros n = length-replicate n 0
+
+pub drop-zeros : (k n : ℕ) → drop k (zeros n) ≡ zeros (n - k)
+drop-zeros zero n = rw sub-zero
+drop-zeros (suc k) zero = rw zero-sub
+drop-zeros (suc k) (suc n) = drop-zeros k n ∙ rw suc-sub-suc
+
+-- ---- parts
+
+-- the part that starts at a place is the list without what comes before
+pub part-from : (xs : List ℕ) (place : ℕ) → take (length xs - place) (drop place xs) ≡ drop place xs
+part-from xs place = take-all (length xs - place) (drop place xs) (omega (arith, length-drop place xs))
+
+suc-plus : (i k : ℕ) → suc i + k ≡ suc (i + k)
+suc-plus i k = omega arith
+
+-- a part of a front part
+pub drop-take : (i k : ℕ) (xs : List ℕ) → drop i (take (i + k) xs) ≡ take k (drop i xs)
+drop-take zero k xs = let none : 0 + k ≡ k = omega arith in rw none
+drop-take (suc i) k [] = rw (suc-plus i k) (sym (take-nil k))
+drop-take (suc i) k (x ∷ xs) = rw (suc-plus i k) (drop-take i k xs)
 
 -- ---- a part as its elements one by one
 

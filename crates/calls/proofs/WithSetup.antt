@@ -5,9 +5,9 @@ use mathlib.Core.Bool.{true, false, _&&_, false≢true}
 use mathlib.Core.List.{List, [], _∷_}
 use lib.Dec.{eqb}
 use Rattle.buffers.proofs.Tests.{by-test, either-true}
-use Rattle.year.specs.Model.{Model, NoSetup, Year}
+use Rattle.year.specs.Model.{Model, NoSetup, Year, noSetup}
 use Rattle.calls.specs.Call.{Call, SetUp, Enter, ReadStatus, WriteMarks, isSetup}
-use Rattle.calls.specs.Refusals.{noSetup, refusal}
+use Rattle.calls.specs.Refusals.{refusal}
 use Rattle.calls.specs.Model.{accepted, stepModel, modelOf, setupAccepted}
 
 -- no call takes a setup away

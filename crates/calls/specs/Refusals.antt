@@ -1,7 +1,7 @@
 -- Document 01, "Refused calls, in checking order", 3 to 16, for every call. (1 and 2 are the key line's.) One table: what a call asks, the length of the
 -- journal's buffer, and the year that it holds.
 -- Assumes nothing.
-use mathlib.Core.Bool.{Bool, true, false, not, _&&_, _||_}
+use mathlib.Core.Bool.{Bool, true, not, _&&_, _||_}
 use mathlib.Core.List.{List, [], _∷_}
 use Prim.Native.Nat.{ℕ, _*_}
 use lib.Dec.{eqb, ltb}
@@ -11,12 +11,8 @@ use Rattle.rounding.specs.Result.{countInRange, readingInRange}
 use Rattle.year.specs.Setup.{both, standardsInRange, productionInRange, factorsInRange}
 use Rattle.year.specs.Replay.{short, isTested}
 use Rattle.year.specs.Admissible.{closed, eventsFull, enginesFull, numberInRange, resultsInRange, lastPeriod}
-use Rattle.year.specs.Model.{Model, NoSetup, Year, ofYear}
+use Rattle.year.specs.Model.{Model, noSetup, ofYear}
 use Rattle.calls.specs.Call.{Readings, readingsOf, Call, resultsOf, isSetup, addsEvent, ofSetup, ofEntry, ofMarks, ofEngine, ofAmendment, ofPeriod}
-
-abbrev pub noSetup : Model → Bool
-noSetup NoSetup = true
-noSetup (Year s es) = false
 
 -- "The reading counts differ or are not 1 to 3."
 abbrev pub countsFit : Readings → Bool

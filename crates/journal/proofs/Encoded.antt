@@ -2,13 +2,13 @@
 -- Assumes nothing.
 use mathlib.Core.Path.{_≡_, refl, sym, ap, _∙_}
 use mathlib.Core.List.{List, [], _∷_, _++_}
-use Prim.Native.Nat.{ℕ, zero, suc, _+_, _-_, _*_, _≤_, _<_}
-use native.Mathlib.Nat.{sub-zero, zero-sub, suc-sub-suc}
+use Prim.Native.Nat.{ℕ, _+_, _-_, _*_, _≤_, _<_}
 use native.Mathlib.Numerals.{add-one}
 use native.Mathlib.Omega.{arith}
-use lib.ListN.{length, take, drop, length-append, length-replicate}
+use lib.ListN.{length, take, drop, length-append}
 use lib.Seq.{take-at, drop-at, drop-drop}
 use Rattle.buffers.specs.Bytes.{put, zeros}
+use Rattle.buffers.proofs.Lists.{length-zeros, drop-zeros}
 use Rattle.year.specs.declared.Setup.{Setup}
 use Rattle.year.specs.declared.Event.{Event}
 use Rattle.year.specs.declared.Event.the-variants.{Engine, Amendment, NextPeriod, Declaration}
@@ -24,17 +24,9 @@ pub length-slots : (es : List Event) → length (slots es) ≡ 8 * length es
 length-slots [] = refl
 length-slots (e ∷ es) = omega (arith, length-append (slots es) (slotOf e), length-slot e, length-slots es)
 
-length-zeros : (n : ℕ) → length (zeros n) ≡ n
-length-zeros n = length-replicate n 0
-
 pub length-encode : (s : Setup) (es : List Event) → length es ≤ 64 → length (encode s es) ≡ 544
 length-encode s es h =
     omega (arith, length-append (slots es) (zeros (512 - 8 * length es)), length-slots es, length-zeros (512 - 8 * length es))
-
-drop-zeros : (k n : ℕ) → drop k (zeros n) ≡ zeros (n - k)
-drop-zeros zero n = rw sub-zero
-drop-zeros (suc k) zero = rw zero-sub
-drop-zeros (suc k) (suc n) = drop-zeros k n ∙ rw suc-sub-suc
 
 module _ (s : Setup) (es : List Event) (e : Event) (h : length es < 64) where
   abbrev place : ℕ

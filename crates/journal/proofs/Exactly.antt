@@ -2,12 +2,13 @@
 -- Assumes nothing.
 use mathlib.Core.Path.{_≡_, refl, sym, ap, _∙_}
 use mathlib.Core.Bool.{Bool, true, false, cond, _&&_, and-eq-true-iff}
-use mathlib.Core.List.{List, [], _∷_, _++_}
+use mathlib.Core.List.{List, _++_}
 use Prim.Native.Nat.{ℕ, zero, suc, _+_, _-_, _*_, _≤_}
 use native.Mathlib.Omega.{arith}
 use lib.ListN.{length, getD, take, drop, length-append, length-drop}
-use lib.Seq.{take-nil, take-take, drop-drop}
+use lib.Seq.{take-take, drop-drop}
 use Rattle.buffers.specs.Bytes.{zeros, same}
+use Rattle.buffers.proofs.Lists.{drop-take}
 use Rattle.buffers.proofs.Same.{same-equal, same-append}
 use Rattle.year.specs.declared.Setup.{Setup}
 use Rattle.year.specs.declared.Event.{Event}
@@ -21,14 +22,6 @@ use Rattle.journal.specs.Read.{setupIn, eventIn, eventsIn, readAs, readJ
 use Rattle.journal.specs.Acceptance.{isHeader, isSlot, entersAt, entersUpTo, Acceptable}
 use Rattle.journal.proofs.Encoded.{length-slots, length-encode}
 use Rattle.journal.proofs.Reading.{no-year}
-
-suc-plus : (i k : ℕ) → suc i + k ≡ suc (i + k)
-suc-plus i k = omega arith
-
-drop-take : (i k : ℕ) (l : List ℕ) → drop i (take (i + k) l) ≡ take k (drop i l)
-drop-take zero k l = let none : 0 + k ≡ k = omega arith in rw none
-drop-take (suc i) k [] = rw (suc-plus i k) (sym (take-nil k))
-drop-take (suc i) k (x ∷ l) = rw (suc-plus i k) (drop-take i k l)
 
 -- three lists joined, part by part
 same-parts : (h b z journal : List ℕ) (m n : ℕ) → length h ≡ m → length b ≡ n

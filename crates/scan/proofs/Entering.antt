@@ -7,8 +7,8 @@ use Prim.Native.Nat.{ℕ, zero, suc, _+_, _-_, _≤_, _<_}
 use native.Mathlib.Decide.{decLt}
 use native.Mathlib.Numerals.{add-one}
 use native.Mathlib.Omega.{arith}
-use lib.ListN.{length, take, drop, length-drop}
-use lib.Seq.{take-all}
+use lib.ListN.{length, take, drop}
+use Rattle.buffers.proofs.Lists.{part-from}
 use Rattle.year.specs.declared.Setup.{Setup}
 use Rattle.year.specs.declared.Event.{Event}
 use Rattle.year.specs.Setup.{setupInRange}
@@ -80,10 +80,6 @@ module _ (journal : List ℕ) (s : Setup) (r : Bool) (e : s ≡ setupIn journal)
 
   pub started : (p : State) → r ≡ true → shown p ≡ start s → (setupInRange s ≡ true → Consistent p) → Entered journal 0 p
   started p h g c = record { enters = setup-is ∙ h; stands = g ∙ ap start e; consistent = c (sym t ∙ h) }
-
--- the part that starts at a place is the journal without what comes before
-pub part-from : (journal : List ℕ) (place : ℕ) → take (length journal - place) (drop place journal) ≡ drop place journal
-part-from journal place = take-all (length journal - place) (drop place journal) (omega (arith, length-drop place journal))
 
 -- ---- one slot: what the code found of its part
 

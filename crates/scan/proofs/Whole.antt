@@ -7,6 +7,7 @@ use Prim.Native.Nat.{ℕ, _-_, _≤_, _<_}
 use native.Mathlib.Omega.{arith}
 use lib.ListN.{length, getD, take, drop}
 use Rattle.buffers.specs.Bytes.{isZero}
+use Rattle.buffers.proofs.Lists.{part-from}
 use Rattle.buffers.proofs.Tests.{and-true}
 use Rattle.year.specs.Model.{NoSetup}
 use Rattle.journal.specs.Encode.{slotPlace}
@@ -14,7 +15,7 @@ use Rattle.journal.specs.Read.{readJournal}
 use Rattle.journal.specs.Acceptance.{isHeader, entersUpTo}
 use Rattle.journal.proofs.Exactly.{acceptable-read, not-acceptable}
 use Rattle.scan.specs.Scan.{entered}
-use Rattle.scan.proofs.Entering.{none-entered, all-entered, part-from}
+use Rattle.scan.proofs.Entering.{none-entered, all-entered}
 
 module _ (journal : List ℕ) where
   abbrev count : ℕ

@@ -1,20 +1,16 @@
 -- What the scan of a buffer tells: whether it is an accepted journal, and the state of the year that it is read as.
 -- Assumes nothing.
 use mathlib.Core.Path.{_≡_}
-use mathlib.Core.Bool.{Bool, true, false, cond}
+use mathlib.Core.Bool.{true, cond, not}
 use mathlib.Core.List.{List}
 use Prim.Native.Nat.{ℕ}
 use Rattle.year.specs.declared.Setup.{Setup}
 use Rattle.year.specs.Replay.{Progress, start, replay}
-use Rattle.year.specs.Model.{Model, NoSetup, Year}
+use Rattle.year.specs.Model.{Model, NoSetup, Year, noSetup}
 use Rattle.journal.specs.Read.{setupIn, eventsIn}
 use Rattle.journal.specs.Acceptance.{entersUpTo}
 use Rattle.progress.specs.State.{shown, Consistent}
 use Rattle.scan.specs.declared.Scanned.{Scanned}
-
-abbrev pub isYear : Model → Bool
-isYear NoSetup = false
-isYear (Year s es) = true
 
 -- a setup of zeros, which is out of range
 abbrev pub zeroSetup : Setup
@@ -31,7 +27,7 @@ progressOf NoSetup = start zeroSetup
 progressOf (Year s es) = replay s es
 
 pub record Tells (r : Scanned) (model : Model) : Type 0 where
-  pub accepted : r .accepted ≡ isYear model
+  pub accepted : r .accepted ≡ not (noSetup model)
   pub year : shown (r .progress) ≡ progressOf model
   -- of an accepted journal, what the state carries beside the year is worked from it
   pub consistent : r .accepted ≡ true → Consistent (r .progress)

@@ -1,6 +1,6 @@
 -- Document 01, "The plain year of a list of calls": the state of the reference model ("plain year"), which is also what a stored journal is read as.
 -- Assumes nothing.
-use mathlib.Core.Bool.{Bool, false}
+use mathlib.Core.Bool.{Bool, true, false}
 use mathlib.Core.List.{List}
 use Rattle.year.specs.declared.Setup.{Setup}
 use Rattle.year.specs.declared.Event.{Event}
@@ -10,6 +10,10 @@ use Rattle.year.specs.Replay.{Progress, replay}
 pub data Model : Type 0 where
   NoSetup : Model
   Year : Setup → List Event → Model
+
+abbrev pub noSetup : Model → Bool
+noSetup NoSetup = true
+noSetup (Year s es) = false
 
 -- a test of a year; without a setup it does not hold
 abbrev pub ofYear : (Progress → Bool) → Model → Bool
