@@ -1,7 +1,7 @@
 -- The tests of a whole buffer, as the code makes them: size, number of events, header and unused slots, and then the events.
 -- Assumes nothing.
-use mathlib.Core.Path.{_≡_, refl, sym, _∙_}
-use mathlib.Core.Bool.{Bool, true, false, _&&_, true≢false, and-eq-true-iff}
+use mathlib.Core.Path.{_≡_, refl, sym, subst, _∙_}
+use mathlib.Core.Bool.{Bool, true, false, not, _&&_, true≢false, and-eq-true-iff}
 use mathlib.Core.List.{List}
 use Prim.Native.Nat.{ℕ, _-_, _≤_, _<_}
 use native.Mathlib.Omega.{arith}
@@ -9,13 +9,20 @@ use lib.ListN.{length, getD, take, drop}
 use Rattle.buffers.specs.Bytes.{isZero}
 use Rattle.buffers.proofs.Lists.{part-from}
 use Rattle.buffers.proofs.Tests.{and-true}
-use Rattle.year.specs.Model.{NoSetup}
+use Rattle.year.specs.Model.{Model, NoSetup, noSetup}
 use Rattle.journal.specs.Encode.{slotPlace}
 use Rattle.journal.specs.Read.{readJournal}
 use Rattle.journal.specs.Acceptance.{isHeader, entersUpTo}
 use Rattle.journal.proofs.Exactly.{acceptable-read, not-acceptable}
-use Rattle.scan.specs.Scan.{entered}
+use Rattle.progress.specs.State.{shown, Consistent}
+use Rattle.scan.specs.declared.Scanned.{Scanned}
+use Rattle.scan.specs.Scan.{progressOf, Tells, entered}
 use Rattle.scan.proofs.Entering.{none-entered, all-entered}
+
+-- what is told of a model, as the contract says it of the model that the buffer is read as
+pub as-promised : (r : Scanned) {m n : Model} → m ≡ n → Tells r m
+    → (r .accepted ≡ not (noSetup n)) × ((shown (r .progress) ≡ progressOf n) × (r .accepted ≡ true → Consistent (r .progress)))
+as-promised r e t = let u = subst (Tells r) e t in (u .accepted, (u .year, u .consistent))
 
 module _ (journal : List ℕ) where
   abbrev count : ℕ

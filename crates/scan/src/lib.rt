@@ -1,10 +1,12 @@
 // A buffer of any length and content read as a journal, from its first event to its last.
 ghost use mathlib.Core.Path.{_≡_};
+ghost use mathlib.Core.Bool.{true, not};
 ghost use Prim.Native.Nat.{_≤_};
 ghost use lib.ListN.{length};
-ghost use Rattle.year.specs.Model.{NoSetup};
+ghost use Rattle.year.specs.Model.{NoSetup, noSetup};
 ghost use Rattle.journal.specs.Read.{readJournal};
-ghost use Rattle.scan.specs.Scan.{Tells, entered};
+ghost use Rattle.progress.specs.State.{shown, Consistent};
+ghost use Rattle.scan.specs.Scan.{progressOf, Tells, entered};
 use buffers::both;
 use buffers::parts::is_zero;
 use decoder::event_at;
@@ -75,7 +77,9 @@ fn scan_events(journal: &[u8], count: usize) -> Scanned
 
 // Whether a buffer is an accepted journal, with the state of what it is read as.
 pub fn scan_journal(journal: &[u8]) -> Scanned
-    ensures { λ r. ⌜ Tells r (readJournal (now (journal .entry))) ⌝ }
+    ensures { λ r. ⌜ r .accepted ≡ not (noSetup (readJournal (now (journal .entry)))) ⌝ }
+    ensures { λ r. ⌜ shown (r .progress) ≡ progressOf (readJournal (now (journal .entry))) ⌝ }
+    ensures { λ r. ⌜ (r .accepted ≡ true → Consistent (r .progress)) ⌝ }
 {
     if journal.len() != 544 {
         return no_journal();
