@@ -89,8 +89,8 @@ fn is_start(journal: &[u8]) -> bool
     ensures { λ r. ⌜ r ≡ isStart (now (journal .entry)) ⌝ }
 {
     both(
-        both(journal[0] == 80, journal[1] == 76),
-        both(journal[2] == 84, journal[3] == 1),
+        both(journal[0] == b'P', journal[1] == b'L'),
+        both(journal[2] == b'T', journal[3] == 1),
     )
 }
 

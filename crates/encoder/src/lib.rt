@@ -117,7 +117,7 @@ pub fn write_setup(journal: &mut [u8], s: Setup)
         co: co.value,
     };
     clear(journal);
-    write_eight(&mut journal[0..8], 80, 76, 84, 1, 0, 0, 0, 0);
+    write_eight(&mut journal[0..8], b'P', b'L', b'T', 1, 0, 0, 0, 0);
     write_production(&mut journal[8..16], s.volume, s.days, s.standards.hcnox);
     write_factors(&mut journal[16..24], s.standards.co, kinds, values);
 }

@@ -1,5 +1,5 @@
 -- Document 01, "The book", told part by part: "A book is accepted exactly if its first 32 bytes are as above and its events could have been entered in that
--- order", with "Unnamed bytes and unused slots are zero." That `readJournal` accepts exactly these is the field `exactly` of OneJournal.
+-- order", with "Unnamed bytes and unused slots are zero." That `readJournal` accepts exactly these is `exactly` and `exactlyIf` of OneJournal.
 -- Assumes nothing.
 use mathlib.Core.Path.{_≡_}
 use mathlib.Core.Bool.{Bool, true, _&&_}
@@ -21,12 +21,12 @@ isHeader journal = same (header (setupIn journal) (getD journal 24 0)) (take 32 
 unfoldable pub isSlot : List ℕ → Bool
 isSlot part = same (slotOf (eventIn part)) (take 8 part)
 
--- slot j is one, and its event could be entered after those of the slots before it
+-- slot j is that of an event which could be entered after those of the slots before it
 unfoldable pub entersAt : List ℕ → ℕ → Bool
 entersAt journal j =
     isSlot (drop (slotPlace j) journal) && admissible (replay (setupIn journal) (eventsIn journal j)) (eventIn (drop (slotPlace j) journal))
 
--- the setup is in range, and so it is with each of the first slots
+-- the setup is in range, and each of the first slots is so
 abbrev pub entersUpTo : List ℕ → ℕ → Bool
 entersUpTo journal zero = setupInRange (setupIn journal)
 entersUpTo journal (suc j) = entersUpTo journal j && entersAt journal j
