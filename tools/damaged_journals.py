@@ -288,11 +288,11 @@ def read(buf):
             return None
     return setup, events
 
-# ------------------------------ second reading, slow and without a running state
+# ------------------------------ second reading, slow: S, Q and s of each engine worked anew; it shares decode and the ranges with the first
 
 
 def literal_marks(setup, events, which):
-    """Marks of pollutant `which` (0 or 1), each figure worked from the whole prefix."""
+    """Marks of pollutant `which` (0 or 1); the spread is worked from the whole prefix, C is carried along."""
     T, X, Ts = setup[2 + which], [], []
     for ev in events:
         if ev[0] == 'A':
@@ -447,7 +447,12 @@ BASES = [
      [E(1, 1, 500, 3000), E(2, 1, 500, 3000), E(3, 2, 500, 3000)]),
     ('unsettled', (5000, 365, 800, 6100, 0, 0, 0, 0),
      [E(1, 1, 998, 5000), E(2, 1, 1071, 5000), E(3, 1, 1200, 5000), A(810, 6100), E(4, 1, 700, 5000), P]),
+    ('low volume', (256, 1, 10, 10, 0, 0, 60000, 0), [E(1, 1, 0, 0)]),
+    ('two periods', (1600, 121, 1000, 6100, 0, 0, 0, 0), [E(1, 1, 800, 5000), E(2, 1, 800, 5000), P]),
+    ('three periods', (1600, 211, 1000, 6100, 0, 0, 0, 0),
+     [E(1, 1, 800, 5000), E(2, 1, 800, 5000), P, E(3, 1, 800, 5000), P, E(4, 1, 800, 5000)]),
     # not accepted as they are
+    ('high volume', (100000000, 366, 1000, 6100, 0, 0, 0, 0), []),
     ('after failure', (1500, 100, 100, 6100, 0, 0, 0, 0),
      [E(1, 1, 500, 5000), E(2, 1, 500, 5000), E(3, 1, 500, 5000), A(200, 6100)]),
     ('after declared', (5000, 365, 800, 6100, 0, 0, 0, 0),
@@ -526,7 +531,7 @@ def main():
         ok = read(book) is not None
         assert ok == literal_accepts(book)
         say(name, 'accepted %d' % ok)
-        say(name, 'rewritten %d' % (encode(*decode(book)) == book))
+        say(name, 'rewritten %d' % (encode(*(decode(book) or (setup, events))) == book))
         for test, make, size in (('bytes', bytes_damage, 138720),
                                  ('lengths', lengths_damage, 560),
                                  ('slots', slots_damage, 127)):

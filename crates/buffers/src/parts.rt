@@ -18,7 +18,7 @@ pub fn is_zero(part: &[u8]) -> bool
     true
 }
 
-// Every byte of a part becomes zero.
+// Writes zero into every byte of a part.
 pub fn clear(part: &mut [u8])
     ensures { λ _. ⌜ now (part .exit) ≡ zeros (length (now (part .entry))) ⌝ }
 {
@@ -29,7 +29,7 @@ pub fn clear(part: &mut [u8])
     }
 }
 
-// The eight bytes of a part.
+// Writes the eight bytes of a part.
 pub fn write_eight(part: &mut [u8], a: u8, b: u8, c: u8, d: u8, e: u8, f: u8, g: u8, h: u8)
     requires { ⌜ length (now part) ≡ 8 ⌝ }
     ensures { λ _. ⌜ now (part .exit) ≡ a ∷ b ∷ c ∷ d ∷ e ∷ f ∷ g ∷ h ∷ [] ⌝ }

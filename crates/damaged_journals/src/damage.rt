@@ -1,4 +1,4 @@
-// The damage. Each function leaves the journal as it was.
+// The damage. Each public function leaves the journal as it was.
 ghost use mathlib.Core.Path.{_≡_};
 ghost use Prim.Native.Nat.{_≤_, _<_};
 ghost use lib.ListN.{length};

@@ -4,7 +4,7 @@ use io::print_decimal;
 use io::write_all;
 use libc::STDOUT_FILENO;
 
-pub fn text(s: &[u8]) {
+fn text(s: &[u8]) {
     write_all(STDOUT_FILENO, s);
 }
 

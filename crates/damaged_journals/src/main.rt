@@ -1,4 +1,4 @@
-// A test program: journals from standard input, each with every byte changed, at every length, with slots exchanged and with other numbers of events. It prints
+// A test program: journals from standard input, each with every byte changed, at every other length up to 560, with slots exchanged and with other numbers of events. It prints
 // how many of the damaged buffers are accepted, and a digest of which. Input and expected output are made by tools/damaged_journals.py, which works from
 // document 01 alone.
 ghost use mathlib.Core.Path.{_≡_};

@@ -9,11 +9,11 @@ use Rattle.year.specs.declared.Event.{Event}
 use Rattle.year.specs.declared.Event.the-variants.{Engine, Amendment, NextPeriod, Declaration}
 
 -- bytes 8 to 15, and bytes 16 to 23
-abbrev pub productionBytes : ℕ → ℕ → ℕ → List ℕ
-productionBytes volume days standard = bytes32 volume ++ bytes16 days ++ bytes16 standard
+abbrev pub bytes8to15 : ℕ → ℕ → ℕ → List ℕ
+bytes8to15 volume days standard = bytes32 volume ++ bytes16 days ++ bytes16 standard
 
-abbrev pub factorBytes : ℕ → Pair → Pair → List ℕ
-factorBytes standard kinds values =
+abbrev pub bytes16to23 : ℕ → Pair → Pair → List ℕ
+bytes16to23 standard kinds values =
     bytes16 standard ++ (kinds .hcnox ∷ kinds .co ∷ []) ++ bytes16 (values .hcnox) ++ bytes16 (values .co)
 
 -- what is stored in one byte fits it

@@ -4,7 +4,7 @@ ghost use mathlib.Core.List.{[]};
 ghost use Prim.Native.Nat.{_<_};
 ghost use lib.ListN.{length, getD};
 ghost use Rattle.journal.specs.Encode.{slot, slotOf, encode, append};
-ghost use Rattle.encoder.specs.Parts.{productionBytes, factorBytes, EventFits, SetupFits};
+ghost use Rattle.encoder.specs.Parts.{bytes8to15, bytes16to23, EventFits, SetupFits};
 use buffers::little_endian::high_byte;
 use buffers::little_endian::low_byte;
 use buffers::parts::clear;
@@ -13,7 +13,7 @@ use year::Event;
 use year::Pair;
 use year::Setup;
 
-// A slot: its kind, the readings, and three numbers of two bytes.
+// Writes a slot: its kind, the readings, and three numbers of two bytes.
 fn write_slot(part: &mut [u8], kind: u8, readings: u8, numbers: Pair, number: u32)
     requires { ⌜ length (now part) ≡ 8 ⌝ }
     ensures { λ _. ⌜ now (part .exit) ≡ slot kind readings (numbers .hcnox) (numbers .co) number ⌝ }
@@ -33,8 +33,8 @@ fn write_slot(part: &mut [u8], kind: u8, readings: u8, numbers: Pair, number: u3
     );
 }
 
-// An event into the slot that is lent.
-pub fn write_event(part: &mut [u8], e: Event)
+// Writes an event into the slot that is lent.
+fn write_event(part: &mut [u8], e: Event)
     requires { ⌜ (length (now part) ≡ 8) × EventFits e ⌝ }
     ensures { λ _. ⌜ now (part .exit) ≡ slotOf e ⌝ }
 {
@@ -51,7 +51,7 @@ pub fn write_event(part: &mut [u8], e: Event)
     }
 }
 
-// One event more: its slot, and the number of events in byte 24.
+// Writes one event more: its slot, and the number of events in byte 24.
 pub fn append(journal: &mut [u8], e: Event)
     requires { ⌜ (length (now journal) ≡ 544) × (getD (now journal) 24 0 < 64) × EventFits e ⌝ }
     ensures { λ _. ⌜ now (journal .exit) ≡ append (now (journal .entry)) e ⌝ }
@@ -62,10 +62,10 @@ pub fn append(journal: &mut [u8], e: Event)
     journal[24] = (count + 1) as u8;
 }
 
-// Bytes 8 to 15: projected volume, production days, the first standard of HC+NOx.
-fn write_production(part: &mut [u8], volume: u32, days: u32, standard: u32)
+// Writes bytes 8 to 15: projected volume, production days, the first standard of HC+NOx.
+fn write_8_to_15(part: &mut [u8], volume: u32, days: u32, standard: u32)
     requires { ⌜ length (now part) ≡ 8 ⌝ }
-    ensures { λ _. ⌜ now (part .exit) ≡ productionBytes volume days standard ⌝ }
+    ensures { λ _. ⌜ now (part .exit) ≡ bytes8to15 volume days standard ⌝ }
 {
     let upper = volume / 65536;
     write_eight(
@@ -81,10 +81,10 @@ fn write_production(part: &mut [u8], volume: u32, days: u32, standard: u32)
     );
 }
 
-// Bytes 16 to 23: the first standard of CO, the factors' kinds, the factors.
-fn write_factors(part: &mut [u8], standard: u32, kinds: Pair, values: Pair)
+// Writes bytes 16 to 23: the first standard of CO, the factors' kinds, the factors.
+fn write_16_to_23(part: &mut [u8], standard: u32, kinds: Pair, values: Pair)
     requires { ⌜ (length (now part) ≡ 8) × (kinds .hcnox < 256) × (kinds .co < 256) ⌝ }
-    ensures { λ _. ⌜ now (part .exit) ≡ factorBytes standard kinds values ⌝ }
+    ensures { λ _. ⌜ now (part .exit) ≡ bytes16to23 standard kinds values ⌝ }
 {
     let a = values.hcnox;
     let b = values.co;
@@ -101,7 +101,7 @@ fn write_factors(part: &mut [u8], standard: u32, kinds: Pair, values: Pair)
     );
 }
 
-// All 544 bytes of a setup with no events, whatever the buffer held.
+// Writes all 544 bytes of a setup with no events, whatever the buffer held.
 pub fn write_setup(journal: &mut [u8], s: Setup)
     requires { ⌜ (length (now journal) ≡ 544) × SetupFits s ⌝ }
     ensures { λ _. ⌜ now (journal .exit) ≡ encode s [] ⌝ }
@@ -118,6 +118,6 @@ pub fn write_setup(journal: &mut [u8], s: Setup)
     };
     clear(journal);
     write_eight(&mut journal[0..8], b'P', b'L', b'T', 1, 0, 0, 0, 0);
-    write_production(&mut journal[8..16], s.volume, s.days, s.standards.hcnox);
-    write_factors(&mut journal[16..24], s.standards.co, kinds, values);
+    write_8_to_15(&mut journal[8..16], s.volume, s.days, s.standards.hcnox);
+    write_16_to_23(&mut journal[16..24], s.standards.co, kinds, values);
 }

@@ -17,6 +17,8 @@ cases =
     record {
       size = refl;
       header = refl;
+      production = refl;
+      readProduction = refl;
       unused = refl;
       engineSlot = refl;
       amendmentSlot = refl;

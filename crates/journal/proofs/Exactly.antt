@@ -1,7 +1,7 @@
 -- A buffer is accepted exactly if its parts are as document 01 says: size, header, number of events, events in their order, unused slots.
 -- Assumes nothing.
 use mathlib.Core.Path.{_≡_, refl, sym, ap, _∙_}
-use mathlib.Core.Bool.{Bool, true, false, cond, _&&_, and-eq-true-iff}
+use mathlib.Core.Bool.{Bool, true, false, cond, _&&_, and-true, and-assoc, and-eq-true-iff}
 use mathlib.Core.List.{List, _++_}
 use Prim.Native.Nat.{ℕ, zero, suc, _+_, _-_, _*_, _≤_}
 use native.Mathlib.Omega.{arith}
@@ -12,6 +12,7 @@ use Rattle.buffers.proofs.Lists.{drop-take}
 use Rattle.buffers.proofs.Same.{same-equal, same-append}
 use Rattle.year.specs.declared.Setup.{Setup}
 use Rattle.year.specs.declared.Event.{Event}
+use Rattle.year.specs.Setup.{setupInRange}
 use Rattle.year.specs.Replay.{replay}
 use Rattle.year.specs.Admissible.{admissible, valid}
 use Rattle.year.specs.Model.{Model, NoSetup, Year}
@@ -58,15 +59,16 @@ module _ (journal : List ℕ) where
       = drop-take (8 * j) 8 (drop 32 journal) ∙ ap (take 8) (drop-drop (8 * j) 32 journal) in
       rw (more, same-append (slots (eventsIn journal j)) (slotOf e) (take (8 * j + 8) (drop 32 journal)), slots-length j, front, slot)
 
-  enters-is : (j : ℕ) → entersUpTo journal j ≡ (same (slots (eventsIn journal j)) (body j) && valid (setupIn journal) (eventsIn journal j))
+  enters-is : (j : ℕ) → (setupInRange (setupIn journal) && entersUpTo journal j) ≡ (same (slots (eventsIn journal j)) (body j) && valid (setupIn journal) (eventsIn journal j))
   unfolding entersAt
-  enters-is zero = refl
+  enters-is zero = and-true (setupInRange (setupIn journal))
   enters-is (suc j) =
       let s = setupIn journal in
       let es = eventsIn journal j in
       let slot = isSlot (drop (slotPlace j) journal) in
       let fits = admissible (replay s es) (eventIn (drop (slotPlace j) journal)) in
-      rw (enters-is j, slots-next j) (and-swap (same (slots es) (body j)) (valid s es) slot fits)
+      rw (← and-assoc (setupInRange s) (entersUpTo journal j) (slot && fits), enters-is j, slots-next j)
+      (and-swap (same (slots es) (body j)) (valid s es) slot fits)
 
   abbrev count : ℕ
   count = getD journal 24 0
@@ -83,7 +85,7 @@ module _ (journal : List ℕ) where
 
   -- what is asked of a buffer, as tests of its parts
   whole-is : (same (encode (setupIn journal) (eventsIn journal count)) journal && valid (setupIn journal) (eventsIn journal count))
-      ≡ (isHeader journal && same (zeros (512 - 8 * count)) (drop (slotPlace count) journal) && entersUpTo journal count)
+      ≡ (isHeader journal && same (zeros (512 - 8 * count)) (drop (slotPlace count) journal) && (setupInRange (setupIn journal) && entersUpTo journal count))
   whole-is = rw (encoded-is, enters-is count) (moved (isHeader journal) _ _ _)
     where
       moved : (h s z v : Bool) → (((h && s) && z) && v) ≡ ((h && z) && (s && v))
@@ -104,7 +106,7 @@ module _ (journal : List ℕ) where
   unfolding readAs
   acceptable-read p =
       let unused = rw (rest-length (p .size)) at (p .unused) in
-      rw (whole-is, p .header, unused, p .events)
+      rw (whole-is, p .header, unused, p .setup, p .events)
 
   tests-hold : (b : Bool) (t : Setup) (fs : List Event) → cond b (Year (setupIn journal) (eventsIn journal count)) NoSetup ≡ Year t fs → b ≡ true
   tests-hold true t fs h = refl
@@ -119,12 +121,13 @@ module _ (journal : List ℕ) where
       let zero = same (zeros (512 - 8 * count)) (drop (slotPlace count) journal) in
       let whole = tests-hold (same (encode s es) journal && valid s es) t fs h in
       let stored = and-eq-true-iff (same (encode s es) journal) (valid s es) .0 whole in
-      let parts = and-eq-true-iff (isHeader journal && zero) (entersUpTo journal count) .0 (sym whole-is ∙ whole) in
+      let parts = and-eq-true-iff (isHeader journal && zero) (setupInRange s && entersUpTo journal count) .0 (sym whole-is ∙ whole) in
       let front = and-eq-true-iff (isHeader journal) zero .0 (parts .0) in
+      let year = and-eq-true-iff (setupInRange s) (entersUpTo journal count) .0 (parts .1) in
       let few : count ≤ 64 = omega (arith, valid-in-range s es (stored .1) .events, replay-stored s es, length-events journal count) in
       let size : length journal ≡ 544
       = sym (ap length (same-equal (encode s es) journal (stored .0))) ∙ length-encode s es (omega (arith, length-events journal count)) in
-      record { size = size; header = front .0; count = few; events = parts .1; unused = rw (rest-length size) (front .1) }
+      record { size = size; header = front .0; setup = year .0; count = few; events = year .1; unused = rw (rest-length size) (front .1) }
 
   -- a buffer of which some part is not so is not accepted
   pub not-acceptable : (Acceptable journal → ⊥) → readJournal journal ≡ NoSetup

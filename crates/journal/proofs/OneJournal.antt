@@ -16,8 +16,8 @@ demand =
       accepted = read-stores;
       one = one-journal;
       refused = none-stored;
-      exactly = acceptable-read;
-      exactlyIf = read-acceptable;
+      ifAcceptable = acceptable-read;
+      onlyIfAcceptable = read-acceptable;
       appended = append-stored;
       appendedRead = append-read;
     }

@@ -1,5 +1,6 @@
 -- Document 01, "The book", told part by part: "A book is accepted exactly if its first 32 bytes are as above and its events could have been entered in that
--- order", with "Unnamed bytes and unused slots are zero." That `readJournal` accepts exactly these is `exactly` and `exactlyIf` of OneJournal.
+-- order", with "Unnamed bytes and unused slots are zero." That `readJournal` accepts exactly these is `ifAcceptable` and
+-- `onlyIfAcceptable` of OneJournal.
 -- Assumes nothing.
 use mathlib.Core.Path.{_≡_}
 use mathlib.Core.Bool.{Bool, true, _&&_}
@@ -13,7 +14,7 @@ use Rattle.year.specs.Admissible.{admissible}
 use Rattle.journal.specs.Encode.{header, slotOf, slotPlace}
 use Rattle.journal.specs.Read.{setupIn, eventIn, eventsIn}
 
--- the first 32 bytes are the header of the setup and the number of events that they say
+-- the first 32 bytes are the header of the setup and the number of events that they say, whether or not these are in range
 unfoldable pub isHeader : List ℕ → Bool
 isHeader journal = same (header (setupIn journal) (getD journal 24 0)) (take 32 journal)
 
@@ -26,14 +27,15 @@ unfoldable pub entersAt : List ℕ → ℕ → Bool
 entersAt journal j =
     isSlot (drop (slotPlace j) journal) && admissible (replay (setupIn journal) (eventsIn journal j)) (eventIn (drop (slotPlace j) journal))
 
--- the setup is in range, and each of the first slots is so
+-- each of the first slots is so
 abbrev pub entersUpTo : List ℕ → ℕ → Bool
-entersUpTo journal zero = setupInRange (setupIn journal)
+entersUpTo journal zero = true
 entersUpTo journal (suc j) = entersUpTo journal j && entersAt journal j
 
 pub record Acceptable (journal : List ℕ) : Type 0 where
   pub size : length journal ≡ 544
   pub header : isHeader journal ≡ true
+  pub setup : setupInRange (setupIn journal) ≡ true
   pub count : getD journal 24 0 ≤ 64
   pub events : entersUpTo journal (getD journal 24 0) ≡ true
   pub unused : isZero (drop (slotPlace (getD journal 24 0)) journal) ≡ true

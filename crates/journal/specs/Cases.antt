@@ -5,6 +5,7 @@ use mathlib.Core.List.{List, [], _∷_, _++_}
 use Prim.Native.Nat.{ℕ}
 use lib.ListN.{length, take, drop, set}
 use Rattle.buffers.specs.Bytes.{zeros}
+use Rattle.year.specs.declared.Setup.{Setup}
 use Rattle.year.specs.declared.Event.the-variants.{Amendment, NextPeriod, Declaration}
 use Rattle.year.specs.Model.{NoSetup, Year}
 use Rattle.year.specs.Cases.{pair, setupOf, engine}
@@ -18,11 +19,25 @@ none = encode (setupOf 5000 800) []
 abbrev pub one : List ℕ
 one = encode (setupOf 5000 800) (engine 1 998 ∷ [])
 
+-- the largest P and D, and factors that differ: HC+NOx multiplied by 1,050 thousandths, 25 thousandths added to CO
+abbrev differing : Setup
+differing =
+    record {
+      volume = 99999999;
+      days = 366;
+      standards = pair 800 6100;
+      factors = record { hcnox = record { kind = 1; value = 1050 }; co = record { kind = 0; value = 25 } };
+    }
+
 pub record Cases : Type 0 where
   pub size : length none ≡ 544
   -- bytes 0 to 31
   pub header : take 32 none
       ≡ 80 ∷ 76 ∷ 84 ∷ 1 ∷ 0 ∷ 0 ∷ 0 ∷ 0 ∷ 136 ∷ 19 ∷ 0 ∷ 0 ∷ 109 ∷ 1 ∷ 32 ∷ 3 ∷ 212 ∷ 23 ∷ 0 ∷ 0 ∷ 0 ∷ 0 ∷ 0 ∷ 0 ∷ 0 ∷ 0 ∷ 0 ∷ 0 ∷ 0 ∷ 0 ∷ 0 ∷ 0 ∷ []
+  -- bytes 8 to 23 where P needs all four bytes and the factors differ
+  pub production : take 16 (drop 8 (encode differing []))
+      ≡ 255 ∷ 224 ∷ 245 ∷ 5 ∷ 110 ∷ 1 ∷ 32 ∷ 3 ∷ 212 ∷ 23 ∷ 1 ∷ 0 ∷ 26 ∷ 4 ∷ 25 ∷ 0 ∷ []
+  pub readProduction : readJournal (encode differing []) ≡ Year differing []
   pub unused : drop 32 none ≡ zeros 512
   pub engineSlot : slotOf (engine 1 998) ≡ 1 ∷ 1 ∷ 230 ∷ 3 ∷ 136 ∷ 19 ∷ 1 ∷ 0 ∷ []
   pub amendmentSlot : slotOf (Amendment (pair 800 6100)) ≡ 2 ∷ 0 ∷ 32 ∷ 3 ∷ 212 ∷ 23 ∷ 0 ∷ 0 ∷ []

@@ -43,7 +43,7 @@ abbrev pub slots : List Event → List ℕ
 slots [] = []
 slots (e ∷ es) = slots es ++ slotOf e
 
--- "unused slots are zero"
+-- "unused slots are zero". (`-` stops at 0: past 64 events, which are never accepted, the list would be longer than 544.)
 abbrev pub encode : Setup → List Event → List ℕ
 encode s es = header s (length es) ++ slots es ++ zeros (512 - 8 * length es)
 

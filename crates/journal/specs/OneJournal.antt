@@ -1,5 +1,5 @@
 -- Demand 2: "For one setup, every list of accepted events .. has one book, and every accepted book reads back as its setup and list."
--- The whole of it: what is stored is read back, what is read back was stored so, and nothing else is accepted, of all buffers whatever.
+-- The whole of it: what is stored is read back, what is read back was stored so, and nothing else is accepted, whatever the buffer.
 -- Assumes nothing.
 use mathlib.Core.Path.{_≡_}
 use mathlib.Core.Bool.{true}
@@ -28,11 +28,11 @@ pub record OneJournal : Type 0 where
   pub accepted : (journal : List ℕ) (s : Setup) (es : List Event) → readJournal journal ≡ Year s es → Stores journal s es
   -- two setups and lists with one journal are equal
   pub one : (s t : Setup) (es fs : List Event) → valid s es ≡ true → valid t fs ≡ true → encode s es ≡ encode t fs → (s ≡ t) × (es ≡ fs)
-  -- a buffer that is not accepted is the journal of none
+  -- a buffer that is not accepted is the journal of no setup and list
   pub refused : (journal : List ℕ) → readJournal journal ≡ NoSetup → (s : Setup) (es : List Event) → Stores journal s es → ⊥
   -- "accepted exactly if": part by part
-  pub exactly : (journal : List ℕ) → Acceptable journal → readJournal journal ≡ Year (setupIn journal) (eventsIn journal (getD journal 24 0))
-  pub exactlyIf : (journal : List ℕ) (s : Setup) (es : List Event) → readJournal journal ≡ Year s es → Acceptable journal
+  pub ifAcceptable : (journal : List ℕ) → Acceptable journal → readJournal journal ≡ Year (setupIn journal) (eventsIn journal (getD journal 24 0))
+  pub onlyIfAcceptable : (journal : List ℕ) (s : Setup) (es : List Event) → readJournal journal ≡ Year s es → Acceptable journal
   -- one event more, written as its slot and byte 24, leaves the journal of the list with that event
   pub appended : (journal : List ℕ) (s : Setup) (es : List Event) (e : Event) → readJournal journal ≡ Year s es → admissible (replay s es) e ≡ true
       → append journal e ≡ encode s (e ∷ es)

@@ -28,7 +28,8 @@ setupIn journal =
           };
     }
 
--- the event that a part of the journal, from a slot's start on, begins with. Any other kind than 1, 2 and 3 is taken for 4: it is not accepted unless it is 4
+-- the event that a part of the journal, from a slot's start on, begins with. Any kind other than 1, 2 and 3 is taken
+-- for 4, and accepted only if it is 4
 abbrev pub eventIn : List ℕ → Event
 eventIn part =
     cond (eqb (getD part 0 0) 1)
@@ -42,7 +43,7 @@ abbrev pub eventsIn : List ℕ → ℕ → List Event
 eventsIn journal zero = []
 eventsIn journal (suc j) = eventIn (drop (slotPlace j) journal) ∷ eventsIn journal j
 
--- these bytes as this setup and these events, if they are so
+-- the year of this setup and these events, if the journal is their stored form and they could have been entered in that order
 unfoldable pub readAs : List ℕ → Setup → List Event → Model
 readAs journal s es = cond (same (encode s es) journal && valid s es) (Year s es) NoSetup
 

@@ -9,6 +9,7 @@ use native.Mathlib.Numerals.{add-one}
 use native.Mathlib.Omega.{arith}
 use lib.ListN.{length, take, drop}
 use Rattle.buffers.proofs.Lists.{part-from}
+use Rattle.buffers.proofs.Tests.{and-true}
 use Rattle.year.specs.declared.Setup.{Setup}
 use Rattle.year.specs.declared.Event.{Event}
 use Rattle.year.specs.Setup.{setupInRange}
@@ -22,8 +23,9 @@ use Rattle.progress.specs.declared.Progress.{Progress as State}
 use Rattle.progress.specs.State.{shown, Consistent}
 use Rattle.scan.specs.Scan.{Tells, entered}
 
--- the first slots were entered, and the state stands for their events
+-- the setup is in range, the first slots were entered, and the state stands for their events
 pub record Entered (journal : List ℕ) (j : ℕ) (p : State) : Type 0 where
+  pub setup : setupInRange (setupIn journal) ≡ true
   pub enters : entersUpTo journal j ≡ true
   pub stands : shown p ≡ replay (setupIn journal) (eventsIn journal j)
   pub consistent : Consistent p
@@ -41,45 +43,42 @@ later journal j (suc n) l f h =
         let same : j ≡ n = omega arith in
         true≢false (sym t ∙ ap (entersAt journal) (sym same) ∙ f)
 
-not-true : (b : Bool) → (b ≡ true → ⊥) → b ≡ false
-not-true true f = absurd (f refl)
-not-true false f = refl
+both-fail : (a b : Bool) → (b ≡ true → ⊥) → (a && b) ≡ false
+both-fail true true f = absurd (f refl)
+both-fail true false f = refl
+both-fail false b f = refl
 
 module _ (journal : List ℕ) (n : ℕ) where
-  pub none-entered : entersUpTo journal n ≡ false → entered journal n ≡ NoSetup
+  pub none-entered : (setupInRange (setupIn journal) && entersUpTo journal n) ≡ false → entered journal n ≡ NoSetup
   unfolding entered
   none-entered h = rw h
 
-  pub all-entered : entersUpTo journal n ≡ true → entered journal n ≡ Year (setupIn journal) (eventsIn journal n)
+  pub all-entered : (setupInRange (setupIn journal) && entersUpTo journal n) ≡ true → entered journal n ≡ Year (setupIn journal) (eventsIn journal n)
   unfolding entered
   all-entered h = rw h
 
   -- a slot that does not enter ends it
   stopped : (j : ℕ) → j < n → entersAt journal j ≡ false → entered journal n ≡ NoSetup
-  stopped j l f = none-entered (not-true (entersUpTo journal n) (later journal j n l f))
+  stopped j l f = none-entered (both-fail (setupInRange (setupIn journal)) (entersUpTo journal n) (later journal j n l f))
 
   -- the last slot was entered
   pub finished : (j : ℕ) (p : State) → j ≤ n → n ≤ j → Entered journal j p → Tells (record { accepted = true; progress = p }) (entered journal n)
   finished j p l m u =
       let same : j ≡ n = omega arith in
       let v = subst (λ k. Entered journal k p) same u in
-      rw (all-entered (v .enters)) (record { accepted = refl; year = v .stands; consistent = λ _. v .consistent })
+      rw (all-entered (and-true (v .setup) (v .enters))) (record { accepted = refl; year = v .stands; consistent = λ _. v .consistent })
 
 -- the setup and what the code found of it
 module _ (journal : List ℕ) (s : Setup) (r : Bool) (e : s ≡ setupIn journal) (t : r ≡ setupInRange s) where
   setup-is : setupInRange (setupIn journal) ≡ r
   setup-is = sym (ap setupInRange e) ∙ sym t
 
-  -- out of range: no slot is entered, however few
+  -- out of range: nothing is entered
   pub no-setup : (n : ℕ) → r ≡ false → entered journal n ≡ NoSetup
-  no-setup n h = none-entered journal n (by n)
-    where
-      by : (n : ℕ) → entersUpTo journal n ≡ false
-      by zero = setup-is ∙ h
-      by (suc n) = rw (by n)
+  no-setup n h = none-entered journal n (rw (setup-is, h))
 
   pub started : (p : State) → r ≡ true → shown p ≡ start s → (setupInRange s ≡ true → Consistent p) → Entered journal 0 p
-  started p h g c = record { enters = setup-is ∙ h; stands = g ∙ ap start e; consistent = c (sym t ∙ h) }
+  started p h g c = record { setup = setup-is ∙ h; enters = refl; stands = g ∙ ap start e; consistent = c (sym t ∙ h) }
 
 -- ---- one slot: what the code found of its part
 
@@ -99,6 +98,7 @@ module _ (journal : List ℕ) (j : ℕ) (p : State) (u : Entered journal j p) wh
     entry q t s c =
         rw (add-one j)
         (record {
+          setup = u .setup;
           enters = and-eq-true-iff (entersUpTo journal j) (entersAt journal j) .1 (u .enters, sym slot-is ∙ t);
           stands = s ∙ rw (he, part-from journal (slotPlace j), u .stands);
           consistent = c;

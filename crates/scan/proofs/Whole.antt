@@ -9,9 +9,10 @@ use lib.ListN.{length, getD, take, drop}
 use Rattle.buffers.specs.Bytes.{isZero}
 use Rattle.buffers.proofs.Lists.{part-from}
 use Rattle.buffers.proofs.Tests.{and-true}
+use Rattle.year.specs.Setup.{setupInRange}
 use Rattle.year.specs.Model.{Model, NoSetup, noSetup}
 use Rattle.journal.specs.Encode.{slotPlace}
-use Rattle.journal.specs.Read.{readJournal}
+use Rattle.journal.specs.Read.{setupIn, readJournal}
 use Rattle.journal.specs.Acceptance.{isHeader, entersUpTo}
 use Rattle.journal.proofs.Exactly.{acceptable-read, not-acceptable}
 use Rattle.progress.specs.State.{shown, Consistent}
@@ -43,13 +44,14 @@ module _ (journal : List ℕ) where
     other-bytes h = not-acceptable journal (λ p. true≢false (sym (and-true (eh ∙ p .header) (unused-is ∙ p .unused)) ∙ h))
 
     pub by-events : length journal ≡ 544 → count ≤ 64 → (header && zero) ≡ true → entered journal count ≡ readJournal journal
-    by-events n few h = by (entersUpTo journal count) refl
+    by-events n few h = by (setupInRange (setupIn journal)) (entersUpTo journal count) refl refl
       where
         parts : (header ≡ true) × (zero ≡ true)
         parts = and-eq-true-iff header zero .0 h
 
-        by : (b : Bool) → entersUpTo journal count ≡ b → entered journal count ≡ readJournal journal
-        by true e =
-            all-entered journal count e
-            ∙ sym (acceptable-read journal (record { size = n; header = sym eh ∙ parts .0; count = few; events = e; unused = sym unused-is ∙ parts .1 }))
-        by false e = none-entered journal count e ∙ sym (not-acceptable journal (λ p. true≢false (sym (p .events) ∙ e)))
+        by : (a b : Bool) → setupInRange (setupIn journal) ≡ a → entersUpTo journal count ≡ b → entered journal count ≡ readJournal journal
+        by true true s e =
+            all-entered journal count (and-true s e)
+            ∙ sym (acceptable-read journal (record { size = n; header = sym eh ∙ parts .0; setup = s; count = few; events = e; unused = sym unused-is ∙ parts .1 }))
+        by true false s e = none-entered journal count (rw (s, e)) ∙ sym (not-acceptable journal (λ p. true≢false (sym (p .events) ∙ e)))
+        by false b s e = none-entered journal count (rw s) ∙ sym (not-acceptable journal (λ p. true≢false (sym (p .setup) ∙ s)))

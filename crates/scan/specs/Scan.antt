@@ -1,10 +1,11 @@
 -- What the scan of a buffer tells: whether it is an accepted journal, and the state of the year that it is read as.
 -- Assumes nothing.
 use mathlib.Core.Path.{_≡_}
-use mathlib.Core.Bool.{true, cond, not}
+use mathlib.Core.Bool.{true, cond, not, _&&_}
 use mathlib.Core.List.{List}
 use Prim.Native.Nat.{ℕ}
 use Rattle.year.specs.declared.Setup.{Setup}
+use Rattle.year.specs.Setup.{setupInRange}
 use Rattle.year.specs.Replay.{Progress, start, replay}
 use Rattle.year.specs.Model.{Model, NoSetup, Year, noSetup}
 use Rattle.journal.specs.Read.{setupIn, eventsIn}
@@ -34,4 +35,4 @@ pub record Tells (r : Scanned) (model : Model) : Type 0 where
 
 -- the setup and the events of the first slots, if they could have been entered in that order
 unfoldable pub entered : List ℕ → ℕ → Model
-entered journal count = cond (entersUpTo journal count) (Year (setupIn journal) (eventsIn journal count)) NoSetup
+entered journal count = cond (setupInRange (setupIn journal) && entersUpTo journal count) (Year (setupIn journal) (eventsIn journal count)) NoSetup

@@ -23,13 +23,13 @@ use year::Factors;
 use year::Pair;
 use year::Setup;
 
-// Whether a buffer is an accepted journal, and the state of the year that it holds.
+// Whether a buffer is an accepted journal, and the state of the year that it holds; of a buffer that is not, the state of a setup of zeros.
 pub struct Scanned {
     pub accepted: bool,
     pub progress: Progress,
 }
 
-// The answer for a buffer that is no accepted journal: the state beside it is that of a setup of zeros, which no journal holds.
+// The answer for a buffer that is no accepted journal. No journal holds a setup of zeros, which is out of range.
 fn no_journal() -> Scanned
     ensures { λ r. ⌜ Tells r NoSetup ⌝ }
 {
@@ -75,7 +75,7 @@ fn scan_events(journal: &[u8], count: usize) -> Scanned
     }
 }
 
-// Whether a buffer is an accepted journal, with the state of what it is read as.
+// Reads a whole buffer: its size, its header and its unused slots, and then its events.
 pub fn scan_journal(journal: &[u8]) -> Scanned
     ensures { λ r. ⌜ r .accepted ≡ not (noSetup (readJournal (now (journal .entry)))) ⌝ }
     ensures { λ r. ⌜ shown (r .progress) ≡ progressOf (readJournal (now (journal .entry))) ⌝ }

@@ -5,7 +5,7 @@ use rounding::Factor;
 use statistics::Deviation;
 use statistics::SampleSize;
 
-// A number for each pollutant: results, or standards, in result units.
+// A number for each pollutant: results or standards in result units, or what a setup says of the two factors.
 pub struct Pair {
     pub hcnox: u32,
     pub co: u32,

@@ -18,29 +18,29 @@ part-write-eight-end c = search needs
 write-eight-requires : tie.Need-write-eight-requires
 write-eight-requires c κs = search needs
 
-sub-write-production : tie.Need-sub-write-production
-sub-write-production c = search needs
+sub-write-8-to-15 : tie.Need-sub-write-8-to-15
+sub-write-8-to-15 c = search needs
 
-part-write-production-start : tie.Need-part-write-production-start
-part-write-production-start c = search needs
+part-write-8-to-15-start : tie.Need-part-write-8-to-15-start
+part-write-8-to-15-start c = search needs
 
-part-write-production-end : tie.Need-part-write-production-end
-part-write-production-end c = search needs
+part-write-8-to-15-end : tie.Need-part-write-8-to-15-end
+part-write-8-to-15-end c = search needs
 
-write-production-requires : tie.Need-write-production-requires
-write-production-requires c κs = search needs
+write-8-to-15-requires : tie.Need-write-8-to-15-requires
+write-8-to-15-requires c κs = search needs
 
-sub-write-factors : tie.Need-sub-write-factors
-sub-write-factors c = search needs
+sub-write-16-to-23 : tie.Need-sub-write-16-to-23
+sub-write-16-to-23 c = search needs
 
-part-write-factors-start : tie.Need-part-write-factors-start
-part-write-factors-start c = search needs
+part-write-16-to-23-start : tie.Need-part-write-16-to-23-start
+part-write-16-to-23-start c = search needs
 
-part-write-factors-end : tie.Need-part-write-factors-end
-part-write-factors-end c = search needs
+part-write-16-to-23-end : tie.Need-part-write-16-to-23-end
+part-write-16-to-23-end c = search needs
 
-write-factors-requires : tie.Need-write-factors-requires
-write-factors-requires c κs = search needs
+write-16-to-23-requires : tie.Need-write-16-to-23-requires
+write-16-to-23-requires c κs = search needs
 
 same-length : tie.Need-same-length
 same-length c = search needs
@@ -52,8 +52,8 @@ returns c =
     let q = r .before .before .before .before in
     let p = q .before .before .before .before in
     rw (
-      s .write-factors .ensures,
-      r .write-production .ensures,
+      s .write-16-to-23 .ensures,
+      r .write-8-to-15 .ensures,
       q .write-eight .ensures,
       p .clear .ensures,
       p .before .before .before .before .before .pre .0,
@@ -68,13 +68,13 @@ write-setup-spec =
     part-write-eight-start
     part-write-eight-end
     write-eight-requires
-    sub-write-production
-    part-write-production-start
-    part-write-production-end
-    write-production-requires
-    sub-write-factors
-    part-write-factors-start
-    part-write-factors-end
-    write-factors-requires
+    sub-write-8-to-15
+    part-write-8-to-15-start
+    part-write-8-to-15-end
+    write-8-to-15-requires
+    sub-write-16-to-23
+    part-write-16-to-23-start
+    part-write-16-to-23-end
+    write-16-to-23-requires
     same-length
     returns)
