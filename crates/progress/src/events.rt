@@ -61,7 +61,6 @@ pub fn after(p: Progress, e: Event) -> Progress
     ensures { λ r. ⌜ shown r ≡ after e (shown p) ⌝ }
     ensures { λ r. ⌜ Consistent r ⌝ }
 {
-    let mut next = p;
     match e {
         Event::Engine {
             number,
@@ -69,17 +68,20 @@ pub fn after(p: Progress, e: Event) -> Progress
             results,
         } => engine(p, number, readings, results),
         Event::Amendment(standards) => {
+            let mut next = p;
             next.standards = standards;
             next.stored = p.stored + 1;
             next
         }
         Event::NextPeriod => {
+            let mut next = p;
             next.period = p.period + 1;
             next.current = 0;
             next.stored = p.stored + 1;
             next
         }
         Event::Declaration => {
+            let mut next = p;
             next.declared = true;
             next.stored = p.stored + 1;
             next
