@@ -6,11 +6,11 @@ use Rattle.schedule.proofs.needs.Tie as tie
 
 returns : tie.Need-returns
 unfolding needs
-returns c = rw (eq-eqb _ _ (c .if1 .taken))
+returns c = rw (eq-eqb (c .before .args .period) 1 (c .if1 .taken))
 
 returns-2 : tie.Need-returns-2
 unfolding needs
-returns-2 c = rw (ne-eqb _ _ (c .if1 .left))
+returns-2 c = rw (ne-eqb (c .before .args .period) 1 (c .if1 .left))
 
 pub needs-spec : {M : Type 1} → statement M
 needs-spec = tie.close (tie.spec returns returns-2)
