@@ -17,12 +17,8 @@ use Rattle.calls.specs.Call.{Entry, Call, SetUp, Enter, ReadStatus, Writ
 use Rattle.calls.specs.Refusals.{refusal}
 use Rattle.calls.specs.Answers.{withEntry, written, journalAfter}
 use Rattle.calls.specs.Model.{withEvent, accepted, stepModel, modelOf, journalOf}
+use Rattle.calls.specs.Stored.{Holds, StoredCalls}
 use Rattle.calls.proofs.Validity.{admitted, setup-valid}
-
--- a journal is lent with 544 bytes, and holds this model
-pub record Holds (journal : List ℕ) (model : Model) : Type 0 where
-  pub size : length journal ≡ 544
-  pub reads : readJournal journal ≡ model
 
 module _ (journal : List ℕ) (n : length journal ≡ 544) where
   -- an accepted entry
@@ -50,14 +46,17 @@ module _ (journal : List ℕ) (n : length journal ≡ 544) where
   by-refusal call false h = record { size = n; reads = refl }
 
   -- one call
-  pub call-holds : (call : Call) → Holds (journalAfter call journal) (stepModel call (readJournal journal))
+  call-holds : (call : Call) → Holds (journalAfter call journal) (stepModel call (readJournal journal))
   unfolding journalAfter stepModel
   call-holds call = rw n (by-refusal call (eqb (refusal 544 call (readJournal journal)) 0) refl)
 
 -- a list of calls, from a buffer of zeros on
-pub calls-hold : (calls : List Call) → Holds (journalOf calls) (modelOf calls)
+calls-hold : (calls : List Call) → Holds (journalOf calls) (modelOf calls)
 calls-hold [] = record { size = refl; reads = cases .readZeros }
 calls-hold (call ∷ calls) =
     let before = calls-hold calls in
     let one = call-holds (journalOf calls) (before .size) call in
     record { size = one .size; reads = one .reads ∙ ap (stepModel call) (before .reads) }
+
+pub stored-calls : StoredCalls
+stored-calls = record { step = call-holds; every = calls-hold }

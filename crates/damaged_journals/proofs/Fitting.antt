@@ -10,7 +10,7 @@ use Rattle.buffers.proofs.LittleEndian.{Bytes}
 use Rattle.year.specs.declared.Setup.{Setup}
 use Rattle.year.specs.declared.Event.{Event}
 use Rattle.journal.specs.Read.{setupIn, eventIn}
-use Rattle.encoder.specs.Parts.{EventFits, SetupFits}
+use Rattle.encoder.specs.Fits.{EventFits, SetupFits}
 
 module _ (bytes : List ℕ) (known : Bytes bytes) where
   pub event-fits : {e : Event} → e ≡ eventIn bytes → EventFits e

@@ -11,7 +11,7 @@ use Rattle.year.specs.Replay.{Progress}
 use Rattle.year.specs.Admissible.{admissible}
 use Rattle.year.proofs.Ranges.{engine-readings}
 use Rattle.year.proofs.Setups.{bounded}
-use Rattle.encoder.specs.Parts.{EventFits, SetupFits}
+use Rattle.encoder.specs.Fits.{EventFits, SetupFits}
 
 pub event-fits : (p : Progress) (e : Event) → admissible p e ≡ true → EventFits e
 event-fits p (Engine number readings results) h = omega (arith, engine-readings p number readings results h)

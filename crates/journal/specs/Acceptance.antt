@@ -33,9 +33,14 @@ entersUpTo journal zero = true
 entersUpTo journal (suc j) = entersUpTo journal j && entersAt journal j
 
 pub record Acceptable (journal : List ℕ) : Type 0 where
+  -- "544 bytes"
   pub size : length journal ≡ 544
+  -- "its first 32 bytes are as above"
   pub header : isHeader journal ≡ true
   pub setup : setupInRange (setupIn journal) ≡ true
+  -- "number of events, 0 to 64"
   pub count : getD journal 24 0 ≤ 64
+  -- "its events could have been entered in that order"
   pub events : entersUpTo journal (getD journal 24 0) ≡ true
+  -- "unused slots are zero"
   pub unused : isZero (drop (slotPlace (getD journal 24 0)) journal) ≡ true

@@ -1,5 +1,10 @@
 // The figures of a year worked anew from its engines, at any resolution.
-ghost use Rattle.progress.specs.State.{Figured, ReworkInRange};
+ghost use mathlib.Core.Path.{_≡_};
+ghost use Rattle.year.specs.Setup.{Hcnox, Co};
+ghost use Rattle.year.specs.Replay.{history};
+ghost use Rattle.figures.specs.Running.{running};
+ghost use Rattle.engines.specs.Engines.{tested};
+ghost use Rattle.progress.specs.State.{ReworkInRange};
 use crate::Progress;
 use engines::rework::running_at;
 use figures::Running;
@@ -12,7 +17,8 @@ pub struct Reworked {
 
 pub fn rework(p: Progress, resolution: u64) -> Reworked
     requires { ⌜ ReworkInRange p resolution ⌝ }
-    ensures { λ r. ⌜ Figured resolution p (r .hcnox) (r .co) ⌝ }
+    ensures { λ r. ⌜ r .hcnox ≡ running resolution (history Hcnox (tested (p .engines))) ⌝ }
+    ensures { λ r. ⌜ r .co ≡ running resolution (history Co (tested (p .engines))) ⌝ }
 {
     let engines = p.engines;
     let count = engines.count;

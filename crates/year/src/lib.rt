@@ -5,7 +5,7 @@ use rounding::Factor;
 use statistics::Deviation;
 use statistics::SampleSize;
 
-// A number for each pollutant: results or standards in result units, or what a setup says of the two factors.
+// A number for each pollutant: results, or standards, in result units.
 pub struct Pair {
     pub hcnox: u32,
     pub co: u32,

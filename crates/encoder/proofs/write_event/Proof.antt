@@ -2,7 +2,7 @@
 use mathlib.Core.Path.{subst}
 use Prim.Native.Nat.{_<_}
 use native.Mathlib.Omega.{arith}
-use Rattle.encoder.specs.Parts.{EventFits}
+use Rattle.encoder.specs.Fits.{EventFits}
 use borrow.Author.Needs.{needs}
 use Rattle.encoder.proofs.write_event.Statement.{statement}
 use Rattle.encoder.proofs.write_event.Tie as tie
@@ -10,14 +10,11 @@ use Rattle.encoder.proofs.write_event.Tie as tie
 enum-known-e : tie.Need-enum-known-e
 enum-known-e c = search needs
 
-cast-write-slot : tie.Need-cast-write-slot
-cast-write-slot c =
+write-slot-requires : tie.Need-write-slot-requires
+write-slot-requires c κs =
     let s = c .before .before in
     let h : s .e .given .0 .1 .0 < 256 = subst EventFits (s .e .given .1) (s .before .before .before .pre .1) in
-    omega arith
-
-write-slot-requires : tie.Need-write-slot-requires
-write-slot-requires c κs = search needs
+    (s .before .before .before .pre .0, omega arith, h)
 
 enum-known-e-2 : tie.Need-enum-known-e-2
 enum-known-e-2 c = search needs
@@ -66,7 +63,6 @@ write-event-spec =
     tie.close
     (tie.spec
     enum-known-e
-    cast-write-slot
     write-slot-requires
     enum-known-e-2
     write-slot-requires-2

@@ -1,28 +1,17 @@
 -- `write_slot` meets its contract. Assumes nothing.
+use mathlib.Core.Path.{ap}
+use mathlib.Core.List.{List, _++_}
+use Prim.Native.Nat.{ℕ}
+use Rattle.buffers.specs.Bytes.{bytes16}
 use borrow.Author.Needs.{needs}
 use Rattle.encoder.proofs.write_slot.Statement.{statement}
 use Rattle.encoder.proofs.write_slot.Tie as tie
 
-low-byte-requires : tie.Need-low-byte-requires
-low-byte-requires c κs = search needs
+paired-requires : tie.Need-paired-requires
+paired-requires c κs = search needs
 
-high-byte-requires : tie.Need-high-byte-requires
-high-byte-requires c κs = search needs
-
-low-byte-requires-2 : tie.Need-low-byte-requires-2
-low-byte-requires-2 c κs = search needs
-
-high-byte-requires-2 : tie.Need-high-byte-requires-2
-high-byte-requires-2 c κs = search needs
-
-low-byte-requires-3 : tie.Need-low-byte-requires-3
-low-byte-requires-3 c κs = search needs
-
-high-byte-requires-3 : tie.Need-high-byte-requires-3
-high-byte-requires-3 c κs = search needs
-
-write-eight-requires : tie.Need-write-eight-requires
-write-eight-requires c κs = search needs
+write-numbers-requires : tie.Need-write-numbers-requires
+write-numbers-requires c κs = search needs
 
 same-length : tie.Need-same-length
 same-length c = search needs
@@ -30,24 +19,9 @@ same-length c = search needs
 returns : tie.Need-returns
 returns c =
     let w = c .before .before in
-    let h3 = w .before in
-    let l3 = h3 .before in
-    let h2 = l3 .before in
-    let l2 = h2 .before in
-    let h1 = l2 .before in
-    let l1 = h1 .before in
-    rw (w .write-eight .ensures, l1 .low-byte .ensures, h1 .high-byte .ensures, l2 .low-byte2 .ensures, h2 .high-byte2 .ensures, l3 .low-byte3 .ensures, h3 .high-byte3 .ensures)
+    let n = w .before in
+    let a = n .before .before .before .args in
+    rw (w .write-numbers .ensures) (ap (λ (l : List ℕ). l ++ bytes16 (a .numbers .hcnox) ++ bytes16 (a .numbers .co) ++ bytes16 (a .number)) (n .paired .ensures))
 
 pub write-slot-spec : {M : Type 1} → statement M
-write-slot-spec =
-    tie.close
-    (tie.spec
-    low-byte-requires
-    high-byte-requires
-    low-byte-requires-2
-    high-byte-requires-2
-    low-byte-requires-3
-    high-byte-requires-3
-    write-eight-requires
-    same-length
-    returns)
+write-slot-spec = tie.close (tie.spec paired-requires write-numbers-requires same-length returns)

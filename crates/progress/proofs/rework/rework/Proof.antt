@@ -14,7 +14,7 @@ returns : tie.Need-returns
 returns c =
     let s = c .before .before .before .before .before .before .before in
     let at = reworked (s .args .p) (s .pre .consistent) (s .args .resolution) in
-    record { hcnox = at Hcnox (c .before .running-at .result) (c .before .running-at .ensures); co = at Co (c .running-at2 .result) (c .running-at2 .ensures) }
+    (at Hcnox (c .before .running-at .result) (c .before .running-at .ensures), at Co (c .running-at2 .result) (c .running-at2 .ensures))
 
 pub rework-spec : {M : Type 1} → statement M
 rework-spec = tie.close (tie.spec running-at-requires running-at-requires-2 returns)

@@ -44,7 +44,7 @@ figures-of-requires : tie.Need-figures-of-requires
 figures-of-requires c κs =
     let w = c .before .before .before .before .before .before in
     let e = w .before .before .enter-all in
-    shown-fits (e .result) (e .ensures) (w .before .at-most .result) Hcnox (w .rework .result .hcnox) (w .rework .ensures .hcnox)
+    shown-fits (e .result) (e .ensures) (w .before .at-most .result) Hcnox (w .rework .result .hcnox) (w .rework .ensures .0)
 
 figures-requires : tie.Need-figures-requires
 figures-requires c κs = search needs
@@ -53,7 +53,7 @@ figures-of-requires-2 : tie.Need-figures-of-requires-2
 figures-of-requires-2 c κs =
     let w = c .before .before .before .before .before .before .before .before in
     let e = w .before .before .enter-all in
-    shown-fits (e .result) (e .ensures) (w .before .at-most .result) Co (w .rework .result .co) (w .rework .ensures .co)
+    shown-fits (e .result) (e .ensures) (w .before .at-most .result) Co (w .rework .result .co) (w .rework .ensures .1)
 
 figures-requires-2 : tie.Need-figures-requires-2
 figures-requires-2 c κs = search needs
