@@ -30,9 +30,9 @@ use Rattle.year.specs.Cases.{setupOf, engine}
 use Rattle.journal.specs.Encode.{encode}
 use Rattle.journal.specs.Read.{readAs, readJournal}
 use Rattle.journal.proofs.Reading.{read-as}
-use Rattle.calls.specs.Call.{EnterEngine, Declare, Entry}
-use Rattle.calls.specs.Refusals.{refusals, refusal}
-use Rattle.calls.specs.Answers.{journalAfter, answer}
+use Rattle.reference.specs.Call.{EnterEngine, Declare, Entry}
+use Rattle.reference.specs.Refusals.{refusals, refusal}
+use Rattle.reference.specs.Answers.{journalAfter, answer}
 use Rattle.commands.specs.Number.{digits, spelt, isNumber, numberAt}
 use Rattle.commands.specs.KeyLine.{spacedNumber, numbersFrom, callOf, commandOf}
 use Rattle.commands.specs.Reply.{decimalUpTo, decimal, refusalReply, statusReply, replyTo, journalAfterLine}

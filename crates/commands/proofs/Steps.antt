@@ -15,9 +15,9 @@ use Rattle.year.specs.Status.{status}
 use Rattle.year.specs.Model.{Year}
 use Rattle.journal.specs.Encode.{append}
 use Rattle.journal.specs.Read.{readJournal}
-use Rattle.calls.specs.Call.{Entry, Call, Enter, WriteMarks, eventOf}
-use Rattle.calls.specs.Refusals.{refusal}
-use Rattle.calls.specs.Answers.{refusalOn, journalAfter, answer, markBytes}
+use Rattle.reference.specs.Call.{Entry, Call, Enter, WriteMarks, eventOf}
+use Rattle.reference.specs.Refusals.{refusal}
+use Rattle.reference.specs.Answers.{refusalOn, journalAfter, answer, markBytes}
 use Rattle.commands.specs.KeyLine.{Make, commandOf}
 use Rattle.commands.specs.Reply.{refusalReply, statusReply, marksReply, replyTo, journalAfterLine}
 use Rattle.commands.specs.Run.{replies}

@@ -9,7 +9,7 @@ use Rattle.cumsum.specs.declared.Mark.{Mark}
 use Rattle.cumsum.specs.declared.Mark.the-variants.{Under, Undecided}
 use Rattle.year.specs.declared.Figures.{Figures}
 use Rattle.year.specs.Cases.{pair, setupOf}
-use Rattle.calls.specs.Call.{EnterEngine, Amend, BeginPeriod, Declare, SetUp, Enter, WriteMarks}
+use Rattle.reference.specs.Call.{EnterEngine, Amend, BeginPeriod, Declare, SetUp, Enter, WriteMarks}
 use Rattle.commands.specs.KeyLine.{Make, Refuse, commandOf}
 use Rattle.commands.specs.Reply.{refusalReply, marksReply, statusReply}
 use Rattle.commands.specs.Run.{linesOf, run}

@@ -8,7 +8,7 @@ use lib.Dec.{ltb, eqb}
 use lib.ListN.{length, getD, take, drop}
 use Rattle.buffers.specs.Text.{byte}
 use Rattle.year.specs.declared.Setup.{Setup}
-use Rattle.calls.specs.Call.{EnterEngine, Amend, BeginPeriod, Declare, Call, SetUp, Enter, WriteMarks}
+use Rattle.reference.specs.Call.{EnterEngine, Amend, BeginPeriod, Declare, Call, SetUp, Enter, WriteMarks}
 use Rattle.commands.specs.declared.Number.{Number}
 use Rattle.commands.specs.declared.Number.the-variants.{Value, Nothing}
 use Rattle.commands.specs.Number.{numberAt}

@@ -10,10 +10,10 @@ use Rattle.statistics.specs.declared.SampleSize.the-variants.{Tenths, Absent}
 use Rattle.cumsum.specs.Marks.{markByte}
 use Rattle.year.specs.declared.Status.{Status}
 use Rattle.journal.specs.Read.{readJournal}
-use Rattle.calls.specs.declared.Answer.{Answer}
-use Rattle.calls.specs.declared.Answer.the-variants.{Accepted, Refused}
-use Rattle.calls.specs.Call.{Call, SetUp, Enter, ReadStatus, WriteMarks}
-use Rattle.calls.specs.Answers.{refusalOn, ifAccepted, answer, journalAfter, markBytes}
+use Rattle.reference.specs.declared.Answer.{Answer}
+use Rattle.reference.specs.declared.Answer.the-variants.{Accepted, Refused}
+use Rattle.reference.specs.Call.{Call, SetUp, Enter, ReadStatus, WriteMarks}
+use Rattle.reference.specs.Answers.{refusalOn, ifAccepted, answer, journalAfter, markBytes}
 use Rattle.commands.specs.KeyLine.{Command, Make, Refuse, commandOf}
 
 -- "Every number is decimal": its digits, at most `most` of them, with no leading zero but in 0

@@ -13,12 +13,12 @@ use Rattle.year.proofs.Valid.{valid-next}
 use Rattle.journal.specs.Read.{readJournal}
 use Rattle.journal.proofs.Cases.{cases}
 use Rattle.journal.proofs.OneJournal.{demand}
-use Rattle.calls.specs.Call.{Entry, Call, SetUp, Enter, ReadStatus, WriteMarks, eventOf}
-use Rattle.calls.specs.Refusals.{refusal}
-use Rattle.calls.specs.Answers.{withEntry, written, journalAfter}
-use Rattle.calls.specs.Model.{withEvent, accepted, stepModel, modelOf, journalOf}
-use Rattle.calls.specs.Stored.{Holds, StoredCalls}
-use Rattle.calls.proofs.Validity.{admitted, setup-valid}
+use Rattle.reference.specs.Call.{Entry, Call, SetUp, Enter, ReadStatus, WriteMarks, eventOf}
+use Rattle.reference.specs.Refusals.{refusal}
+use Rattle.reference.specs.Answers.{withEntry, written, journalAfter}
+use Rattle.reference.specs.Model.{withEvent, accepted, stepModel, modelOf, journalOf}
+use Rattle.reference.specs.Stored.{Holds, StoredCalls}
+use Rattle.reference.proofs.Validity.{admitted, setup-valid}
 
 module _ (journal : List ℕ) (n : length journal ≡ 544) where
   -- an accepted entry

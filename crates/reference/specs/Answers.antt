@@ -13,10 +13,10 @@ use Rattle.year.specs.Status.{blank, status, printedMarks}
 use Rattle.year.specs.Model.{Model, NoSetup, Year}
 use Rattle.journal.specs.Encode.{encode, append}
 use Rattle.journal.specs.Read.{readJournal}
-use Rattle.calls.specs.declared.Answer.{Answer}
-use Rattle.calls.specs.declared.Answer.the-variants.{Accepted, Refused}
-use Rattle.calls.specs.Call.{Entry, Call, SetUp, Enter, ReadStatus, WriteMarks, eventOf}
-use Rattle.calls.specs.Refusals.{refusal}
+use Rattle.reference.specs.declared.Answer.{Answer}
+use Rattle.reference.specs.declared.Answer.the-variants.{Accepted, Refused}
+use Rattle.reference.specs.Call.{Entry, Call, SetUp, Enter, ReadStatus, WriteMarks, eventOf}
+use Rattle.reference.specs.Refusals.{refusal}
 
 -- the refusal of a call on a lent journal of any length and content, 0 for none
 abbrev pub refusalOn : Call → List ℕ → ℕ

@@ -15,9 +15,9 @@ use Rattle.year.specs.Replay.{replay, history}
 use Rattle.year.specs.Verdict.{verdict}
 use Rattle.year.specs.Status.{printedMarks}
 use Rattle.year.specs.Model.{Model, NoSetup, Year}
-use Rattle.calls.specs.Call.{Entry, Call, SetUp, Enter, ReadStatus, WriteMarks, eventOf, isSetup}
-use Rattle.calls.specs.Refusals.{refusal}
-use Rattle.calls.specs.Answers.{journalAfter}
+use Rattle.reference.specs.Call.{Entry, Call, SetUp, Enter, ReadStatus, WriteMarks, eventOf, isSetup}
+use Rattle.reference.specs.Refusals.{refusal}
+use Rattle.reference.specs.Answers.{journalAfter}
 
 -- "Each other accepted entry adds its event at the end": the newest event comes first in the list
 abbrev pub withEvent : Entry → Model → Model

@@ -6,9 +6,9 @@ use Prim.Native.Nat.{ℕ}
 use lib.ListN.{length}
 use Rattle.year.specs.Model.{Model}
 use Rattle.journal.specs.Read.{readJournal}
-use Rattle.calls.specs.Call.{Call}
-use Rattle.calls.specs.Answers.{journalAfter}
-use Rattle.calls.specs.Model.{stepModel, modelOf, journalOf}
+use Rattle.reference.specs.Call.{Call}
+use Rattle.reference.specs.Answers.{journalAfter}
+use Rattle.reference.specs.Model.{stepModel, modelOf, journalOf}
 
 -- a journal has 544 bytes and is read as this state of the model
 pub record Holds (journal : List ℕ) (model : Model) : Type 0 where

@@ -12,7 +12,7 @@ use Rattle.year.specs.Setup.{both, standardsInRange, productionInRange, factors
 use Rattle.year.specs.Replay.{short, isTested}
 use Rattle.year.specs.Admissible.{closed, eventsFull, enginesFull, numberInRange, resultsInRange, lastPeriod}
 use Rattle.year.specs.Model.{Model, noSetup, ofYear}
-use Rattle.calls.specs.Call.{Readings, readingsOf, Call, resultsOf, isSetup, addsEvent, ofSetup, ofEntry, ofMarks, ofEngine, ofAmendment, ofPeriod}
+use Rattle.reference.specs.Call.{Readings, readingsOf, Call, resultsOf, isSetup, addsEvent, ofSetup, ofEntry, ofMarks, ofEngine, ofAmendment, ofPeriod}
 
 -- "The reading counts differ or are not 1 to 3."
 abbrev pub countsFit : Readings → Bool

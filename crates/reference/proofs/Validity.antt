@@ -20,9 +20,9 @@ use Rattle.year.specs.Admissible.{closed, eventsFull, numberInRange, resultsInR
 use Rattle.year.specs.Model.{Model, NoSetup, Year}
 use Rattle.year.proofs.Valid.{valid-next}
 use Rattle.year.proofs.Replayed.{replay-setup}
-use Rattle.calls.specs.Call.{Readings, Entry, EnterEngine, Amend, BeginPeriod, Declare, Call, SetUp, Enter, ReadStatus, WriteMarks, resultsOf, eventOf}
-use Rattle.calls.specs.Refusals.{refusals, refusal}
-use Rattle.calls.specs.Model.{accepted, stepModel, modelOf}
+use Rattle.reference.specs.Call.{Readings, Entry, EnterEngine, Amend, BeginPeriod, Declare, Call, SetUp, Enter, ReadStatus, WriteMarks, resultsOf, eventOf}
+use Rattle.reference.specs.Refusals.{refusals, refusal}
+use Rattle.reference.specs.Model.{accepted, stepModel, modelOf}
 
 refusals-numbered : (size : ℕ) (call : Call) (model : Model) → Numbered (refusals size call model)
 unfolding refusals

@@ -11,10 +11,10 @@ use Rattle.year.specs.Periods.{periods, needs}
 use Rattle.year.specs.Verdict.{verdict}
 use Rattle.year.specs.Admissible.{closed, admissible}
 use Rattle.journal.specs.Read.{readAs}
-use Rattle.calls.specs.Refusals.{refusals, refusal}
-use Rattle.calls.specs.Answers.{journalAfter, answer, outAfter, marksPart}
-use Rattle.calls.specs.Model.{stepModel}
-use Rattle.calls.specs.Cases.{Cases}
+use Rattle.reference.specs.Refusals.{refusals, refusal}
+use Rattle.reference.specs.Answers.{journalAfter, answer, outAfter, marksPart}
+use Rattle.reference.specs.Model.{stepModel}
+use Rattle.reference.specs.Cases.{Cases}
 
 pub cases : Cases
 unfolding nearestEven variation t95 sizeReached compared failed undecided put periods needs verdict closed admissible readAs refusals refusal journalAfter answer outAfter marksPart stepModel

@@ -18,11 +18,11 @@ use Rattle.year.specs.Status.{blank}
 use Rattle.year.specs.Model.{Model, NoSetup, Year}
 use Rattle.year.specs.Cases.{pair, setupOf, engine, three}
 use Rattle.journal.specs.Encode.{encode}
-use Rattle.calls.specs.declared.Answer.the-variants.{Accepted, Refused}
-use Rattle.calls.specs.Call.{EnterEngine, Amend, BeginPeriod, Declare, Call, SetUp, Enter, ReadStatus, WriteMarks}
-use Rattle.calls.specs.Refusals.{refusal}
-use Rattle.calls.specs.Answers.{noStatus, answer, journalAfter, outAfter, marksPart}
-use Rattle.calls.specs.Model.{modelOf, journalOf, setupAccepted}
+use Rattle.reference.specs.declared.Answer.the-variants.{Accepted, Refused}
+use Rattle.reference.specs.Call.{EnterEngine, Amend, BeginPeriod, Declare, Call, SetUp, Enter, ReadStatus, WriteMarks}
+use Rattle.reference.specs.Refusals.{refusal}
+use Rattle.reference.specs.Answers.{noStatus, answer, journalAfter, outAfter, marksPart}
+use Rattle.reference.specs.Model.{modelOf, journalOf, setupAccepted}
 
 -- a setup of this volume, these standards and this HC+NOx factor
 abbrev pub setupWith : ℕ → Pair → Factor → Setup

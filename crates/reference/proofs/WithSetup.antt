@@ -6,9 +6,9 @@ use mathlib.Core.List.{List, [], _∷_}
 use lib.Dec.{eqb}
 use Rattle.buffers.proofs.Tests.{by-test, either-true}
 use Rattle.year.specs.Model.{Model, NoSetup, Year, noSetup}
-use Rattle.calls.specs.Call.{Call, SetUp, Enter, ReadStatus, WriteMarks, isSetup}
-use Rattle.calls.specs.Refusals.{refusal}
-use Rattle.calls.specs.Model.{accepted, stepModel, modelOf, setupAccepted}
+use Rattle.reference.specs.Call.{Call, SetUp, Enter, ReadStatus, WriteMarks, isSetup}
+use Rattle.reference.specs.Refusals.{refusal}
+use Rattle.reference.specs.Model.{accepted, stepModel, modelOf, setupAccepted}
 
 -- no call takes a setup away
 accepted-has : (call : Call) (model : Model) → noSetup model ≡ false → noSetup (accepted call model) ≡ false

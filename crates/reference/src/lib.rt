@@ -1,0 +1,14 @@
+// What the public calls give back.
+use year::Status;
+
+// An accepted setup, entry or status gives the status; a refused call gives the number of its refusal.
+pub enum Answer {
+    Accepted(Status),
+    Refused(u8),
+}
+
+// What the marks call tells beside the bytes that it writes: its refusal, 0 for none, and how many bytes it wrote.
+pub struct Written {
+    pub refusal: u8,
+    pub length: usize,
+}
