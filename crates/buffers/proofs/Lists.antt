@@ -1,6 +1,7 @@
 -- Lists of numbers: zeros, parts, parts as their elements, stores, and parts that are lent and come back.
 -- Assumes nothing.
 use mathlib.Core.Path.{_≡_, refl, sym, ap, _∙_}
+use mathlib.Core.Logic.{inl, inr}
 use mathlib.Core.Bool.{true, false}
 use mathlib.Core.List.{List, [], _∷_, _++_, append-nil, append-assoc}
 use Prim.Native.Nat.{ℕ, zero, suc, _+_, _-_, _≤_, _<_}
@@ -8,10 +9,10 @@ use native.Mathlib.Nat.{sub-zero, zero-sub, suc-sub-suc}
 use native.Mathlib.Numerals.{add-one}
 use native.Mathlib.Omega.{arith}
 use lib.ListN.{length, getD, take, drop, set, drop-of-length-le, length-append, length-take, length-drop, length-replicate}
-use lib.Seq.{sets, sets-eq, set-split, drop-cons, append-snoc, take-all, take-nil}
+use lib.Seq.{sets, sets-eq, set-split, getD-set-other, drop-cons, append-snoc, take-all, take-nil}
 use borrow.Author.Tests.{ne-eqb}
 use borrow.Rule.Slice.PartMut.{putMid, post-is}
-use Rattle.buffers.specs.Bytes.{put, zeros, isZero}
+use Rattle.buffers.specs.Bytes.{put, Outside, zeros, isZero}
 
 -- ---- whether all is zero, one element after another
 
@@ -87,3 +88,22 @@ module _ (buffer : List ℕ) (place : ℕ) where
   pub length-put : (bytes : List ℕ) → place + length bytes ≤ length buffer → length (put buffer place bytes) ≡ length buffer
   unfolding put
   length-put bytes h = simp (length-append, length-take, length-drop) (omega arith)
+
+-- ---- bytes put over a buffer's own leave it as it was at every other index
+
+sets-other : (vs xs : List ℕ) (place i : ℕ) → Outside place (length vs) i → getD (sets xs place vs) i 0 ≡ getD xs i 0
+sets-other [] xs place i h = refl
+sets-other (v ∷ vs) xs place i h = sets-other vs (set xs place v) (suc place) i (past h) ∙ getD-set-other xs place i v 0 (apart h)
+  where
+    past : Outside place (suc (length vs)) i → Outside (suc place) (length vs) i
+    past (inl l) = inl (omega arith)
+    past (inr l) = inr (omega arith)
+
+    apart : Outside place (suc (length vs)) i → i ≡ place → ⊥
+    apart (inl l) e = omega arith
+    apart (inr l) e = omega arith
+
+pub put-other : (buffer : List ℕ) (place : ℕ) (bytes : List ℕ) (i : ℕ) → place + length bytes ≤ length buffer → Outside place (length bytes) i
+    → getD (put buffer place bytes) i 0 ≡ getD buffer i 0
+unfolding put
+put-other buffer place bytes i h o = ap (λ (r : List ℕ). getD r i 0) (sym (sets-eq bytes buffer place h)) ∙ sets-other bytes buffer place i o

@@ -24,7 +24,7 @@ use Rattle.reference.specs.Call.{Readings, Entry, EnterEngine, Amend, Be
 use Rattle.reference.specs.Refusals.{refusals, refusal}
 use Rattle.reference.specs.Model.{accepted, stepModel, modelOf}
 
-refusals-numbered : (size : ℕ) (call : Call) (model : Model) → Numbered (refusals size call model)
+pub refusals-numbered : (size : ℕ) (call : Call) (model : Model) → Numbered (refusals size call model)
 unfolding refusals
 refusals-numbered size call model = omega arith
 

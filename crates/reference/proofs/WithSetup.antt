@@ -1,17 +1,17 @@
--- A list of calls with an accepted setup in it leaves the reference model with a setup.
+-- A list of calls leaves the reference model with a setup exactly if there is an accepted setup in it.
 -- Assumes nothing.
-use mathlib.Core.Path.{_≡_, refl}
-use mathlib.Core.Bool.{true, false, _&&_, false≢true}
+use mathlib.Core.Path.{_≡_, refl, ap, _∙_}
+use mathlib.Core.Bool.{Bool, true, false, cond, _&&_, false≢true}
 use mathlib.Core.List.{List, [], _∷_}
 use lib.Dec.{eqb}
-use Rattle.buffers.proofs.Tests.{by-test, either-true}
+use Rattle.buffers.proofs.Tests.{by-test, or-false, either-true}
 use Rattle.year.specs.Model.{Model, NoSetup, Year, noSetup}
 use Rattle.reference.specs.Call.{Call, SetUp, Enter, ReadStatus, WriteMarks, isSetup}
 use Rattle.reference.specs.Refusals.{refusal}
 use Rattle.reference.specs.Model.{accepted, stepModel, modelOf, setupAccepted}
 
 -- no call takes a setup away
-accepted-has : (call : Call) (model : Model) → noSetup model ≡ false → noSetup (accepted call model) ≡ false
+pub accepted-has : (call : Call) (model : Model) → noSetup model ≡ false → noSetup (accepted call model) ≡ false
 accepted-has (SetUp s) model h = refl
 accepted-has (Enter entry) NoSetup h = h
 accepted-has (Enter entry) (Year s es) h = refl
@@ -35,3 +35,22 @@ model-has-setup [] h = absurd (false≢true h)
 model-has-setup (call ∷ calls) h =
     either-true (isSetup call && eqb (refusal 544 call (modelOf calls)) 0) (setup-has call (modelOf calls))
     (λ before. step-has call (modelOf calls) (model-has-setup calls before)) h
+
+-- and without one no call gives a setup
+either-way : (b : Bool) → cond b NoSetup NoSetup ≡ NoSetup
+either-way true = refl
+either-way false = refl
+
+step-none : (call : Call) → (isSetup call && eqb (refusal 544 call NoSetup) 0) ≡ false → stepModel call NoSetup ≡ NoSetup
+unfolding stepModel
+step-none (SetUp s) h = rw h
+step-none (Enter entry) h = either-way (eqb (refusal 544 (Enter entry) NoSetup) 0)
+step-none ReadStatus h = either-way (eqb (refusal 544 ReadStatus NoSetup) 0)
+step-none (WriteMarks size) h = either-way (eqb (refusal 544 (WriteMarks size) NoSetup) 0)
+
+pub model-has-none : (calls : List Call) → setupAccepted calls ≡ false → modelOf calls ≡ NoSetup
+model-has-none [] h = refl
+model-has-none (call ∷ calls) h =
+    let parts = or-false (isSetup call && eqb (refusal 544 call (modelOf calls)) 0) (setupAccepted calls) h in
+    let before = model-has-none calls (parts .1) in
+    ap (stepModel call) before ∙ step-none call (rw before at (parts .0))

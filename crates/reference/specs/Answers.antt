@@ -6,6 +6,7 @@ use Prim.Native.Nat.{ℕ}
 use lib.Dec.{eqb}
 use lib.ListN.{length}
 use Rattle.buffers.specs.Bytes.{put}
+use Rattle.buffers.specs.Rows.{Row}
 use Rattle.cumsum.specs.Marks.{markByte}
 use Rattle.year.specs.declared.Status.{Status}
 use Rattle.year.specs.Replay.{replay}
@@ -16,9 +17,12 @@ use Rattle.journal.specs.Read.{readJournal}
 use Rattle.reference.specs.declared.Answer.{Answer}
 use Rattle.reference.specs.declared.Answer.the-variants.{Accepted, Refused}
 use Rattle.reference.specs.Call.{Entry, Call, SetUp, Enter, ReadStatus, WriteMarks, eventOf}
-use Rattle.reference.specs.Refusals.{refusal}
+use Rattle.reference.specs.Refusals.{refusals, refusal}
 
--- the refusal of a call on a lent journal of any length and content, 0 for none
+-- the table for a call on a lent journal of any length and content, and its refusal, 0 for none
+abbrev pub refusalsOn : Call → List ℕ → List Row
+refusalsOn call journal = refusals (length journal) call (readJournal journal)
+
 abbrev pub refusalOn : Call → List ℕ → ℕ
 refusalOn call journal = refusal (length journal) call (readJournal journal)
 

@@ -3,4 +3,7 @@ pub mod Refusals
 pub mod Answers
 pub mod Model
 pub mod Stored
+pub mod Demand1
+pub mod Demand2
+pub mod Demand3
 pub mod Cases

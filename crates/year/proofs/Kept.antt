@@ -3,7 +3,9 @@
 -- Assumes nothing.
 use mathlib.Core.Path.{_≡_, refl}
 use mathlib.Core.List.{List, [], _∷_, _++_}
-use Prim.Native.Nat.{ℕ}
+use Prim.Native.Nat.{ℕ, _*_}
+use native.Mathlib.Omega.{arith}
+use lib.ListN.{length, length-append}
 use Rattle.cumsum.specs.Marks.{mark}
 use Rattle.year.specs.declared.Pair.{Pair}
 use Rattle.year.specs.declared.Event.the-variants.{Amendment}
@@ -23,3 +25,9 @@ module _ (k : ℕ) (standards : Pair) (p : Progress) where
 pub marks-next : (k : ℕ) (x : Tested) (xs : List Tested)
     → printedMarks k (x ∷ xs) ≡ printedMarks k xs ++ (mark k (history Hcnox (x ∷ xs)) ∷ mark k (history Co (x ∷ xs)) ∷ [])
 marks-next k x xs = refl
+
+-- two marks are printed for each engine
+pub printed-length : (k : ℕ) (xs : List Tested) → length (printedMarks k xs) ≡ 2 * length xs
+printed-length k [] = refl
+printed-length k (x ∷ xs) =
+    rw (length-append (printedMarks k xs) (mark k (history Hcnox (x ∷ xs)) ∷ mark k (history Co (x ∷ xs)) ∷ [])) (omega (arith, printed-length k xs))

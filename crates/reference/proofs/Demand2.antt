@@ -1,0 +1,131 @@
+-- Demand 2, proved.
+-- Assumes nothing.
+use mathlib.Core.Path.{_≡_, refl, sym, ap, _∙_}
+use mathlib.Core.Bool.{false}
+use mathlib.Core.List.{List, [], _∷_}
+use Prim.Native.Nat.{ℕ, _≤_, _<_}
+use native.Mathlib.Nat.{add-zero}
+use native.Mathlib.Omega.{arith}
+use lib.ListN.{length}
+use Rattle.buffers.specs.Bytes.{put}
+use Rattle.statistics.specs.Spread.{Test, total, deviationOf}
+use Rattle.statistics.specs.SampleSize.{sampleSizeOf}
+use Rattle.cumsum.specs.Intervals.{cumsum, actionLimit}
+use Rattle.cumsum.specs.Marks.{mark}
+use Rattle.year.specs.declared.Setup.{Setup}
+use Rattle.year.specs.declared.Event.{Event}
+use Rattle.year.specs.declared.Figures.{Figures}
+use Rattle.year.specs.Setup.{Pollutant, Hcnox, Co}
+use Rattle.year.specs.Replay.{Progress, replay, history}
+use Rattle.year.specs.Status.{blank, figures, status}
+use Rattle.year.specs.Model.{Model, NoSetup, Year, noSetup}
+use Rattle.year.proofs.Replayed.{history-length}
+use Rattle.journal.specs.Read.{readJournal}
+use Rattle.journal.proofs.OneJournal.{demand}
+use Rattle.reference.specs.declared.Answer.the-variants.{Accepted, Refused}
+use Rattle.reference.specs.Call.{Call, SetUp, Enter, ReadStatus, WriteMarks, isSetup}
+use Rattle.reference.specs.Answers.{refusalOn, journalAfter, statusOf, answer, answerOf, markBytes, outAfter}
+use Rattle.reference.specs.Model.{accepted}
+use Rattle.reference.specs.Demand2.{figuresOf, Shows, Demand2}
+use Rattle.reference.proofs.Stored.{stored-calls}
+use Rattle.reference.proofs.WithSetup.{accepted-has}
+use Rattle.reference.proofs.Given.{accepted-gives, accepted-size, accepted-year, accepted-reads, status-accepted}
+use Rattle.reference.proofs.Demand1.{demand-1}
+
+-- ---- the figures of one pollutant
+
+sum-is : (h : List Test) → figures 1024 h .sum ≡ total h
+sum-is [] = refl
+sum-is (x ∷ []) = sym (add-zero (x .result))
+sum-is (x ∷ y ∷ h) = refl
+
+from-two : (h : List Test) → 2 ≤ length h
+    → figures 1024 h ≡ record {
+      sum = total h;
+      deviation = deviationOf 1024 h;
+      cumsum = cumsum 1024 h;
+      limit = actionLimit 1024 h;
+      size = sampleSizeOf h;
+      mark = mark 1024 h;
+    }
+from-two [] l = absurd (omega arith)
+from-two (x ∷ []) l = absurd (omega arith)
+from-two (x ∷ y ∷ h) l = refl
+
+before-two : (h : List Test) → length h < 2 → figures 1024 h ≡ blank (total h)
+before-two [] l = refl
+before-two (x ∷ []) l = ap blank (sym (add-zero (x .result)))
+before-two (x ∷ y ∷ h) l = absurd (omega arith)
+
+-- ---- the figures of a year
+
+module _ (p : Progress) where
+  figures-of : (q : Pollutant) → figuresOf q (status 1024 p) ≡ figures 1024 (history q (p .tested))
+  figures-of Hcnox = refl
+  figures-of Co = refl
+
+  -- a figure from engine 2 on
+  later : {A : Type 0} (figure : Figures → A) (q : Pollutant) → 2 ≤ length (p .tested)
+      → figure (figuresOf q (status 1024 p))
+      ≡ figure (record {
+        sum = total (history q (p .tested));
+        deviation = deviationOf 1024 (history q (p .tested));
+        cumsum = cumsum 1024 (history q (p .tested));
+        limit = actionLimit 1024 (history q (p .tested));
+        size = sampleSizeOf (history q (p .tested));
+        mark = mark 1024 (history q (p .tested));
+      })
+  later figure q l =
+      ap figure (figures-of q) ∙ ap figure (from-two (history q (p .tested)) (omega (arith, history-length q (p .tested))))
+
+  pub shows : Shows (status 1024 p) p
+  shows =
+      record {
+        n = refl;
+        verdict = refl;
+        sum = λ q. ap (λ (f : Figures). f .sum) (figures-of q) ∙ sum-is (history q (p .tested));
+        deviation = later (λ f. f .deviation);
+        cumsum = later (λ f. f .cumsum);
+        limit = later (λ f. f .limit);
+        size = later (λ f. f .size);
+        mark = later (λ f. f .mark);
+        early = λ q l. figures-of q ∙ before-two (history q (p .tested)) (omega (arith, history-length q (p .tested)));
+      }
+
+-- ---- what is answered
+
+module _ (call : Call) (journal : List ℕ) (h : refusalOn call journal ≡ 0) where
+  pub accepted-answer : answer call journal ≡ Accepted (statusOf (readJournal (journalAfter call journal)))
+  unfolding answer
+  accepted-answer = accepted-gives call journal (Accepted (statusOf (readJournal (journalAfter call journal)))) (Refused (refusalOn call journal)) h
+
+  -- the journal after an accepted call holds a year
+  after-year : noSetup (readJournal (journalAfter call journal)) ≡ false
+  after-year = ap noSetup (accepted-reads call journal h) ∙ by call (accepted-year call journal h)
+    where
+      by : (c : Call) → (isSetup c ≡ false → noSetup (readJournal journal) ≡ false) → noSetup (accepted c (readJournal journal)) ≡ false
+      by (SetUp s) year = refl
+      by (Enter entry) year = accepted-has (Enter entry) (readJournal journal) (year refl)
+      by ReadStatus year = year refl
+      by (WriteMarks size) year = year refl
+
+-- status on the journal that an accepted call leaves answers the same
+answered : (call : Call) (journal : List ℕ) → refusalOn call journal ≡ 0 → answer call journal ≡ answer ReadStatus (journalAfter call journal)
+answered call journal h =
+    let left = journalAfter call journal in
+    let n = stored-calls .step journal (accepted-size call journal h) call .size in
+    let same : statusOf (readJournal (journalAfter ReadStatus left)) ≡ statusOf (readJournal left) = ap (λ b. statusOf (readJournal b)) (demand-1 .statusKept left) in
+    accepted-answer call journal h ∙ ap Accepted (sym same) ∙ sym (accepted-answer ReadStatus left (status-accepted left n (after-year call journal h)))
+
+pub demand-2 : Demand2
+unfolding outAfter
+demand-2 =
+    record {
+      setUp = λ s journal. accepted-reads (SetUp s) journal;
+      entered = λ entry journal s es e h. accepted-reads (Enter entry) journal h ∙ rw e;
+      shown = λ call journal s es h e. rw (accepted-answer call journal h, e) (shows (replay s es));
+      answered = answered;
+      marks = λ journal out s es e h.
+          accepted-gives (WriteMarks (length out)) journal (put out 0 (markBytes (readJournal journal))) out h ∙ rw e;
+      journals = demand;
+    }

@@ -1,0 +1,77 @@
+-- Demand 3, proved.
+-- Assumes nothing.
+use mathlib.Core.Path.{_≡_, refl, ap, _∙_}
+use mathlib.Core.Bool.{false, true≢false}
+use mathlib.Core.List.{List, [], reverse}
+use Prim.Native.Nat.{ℕ, _*_, _≤_}
+use native.Mathlib.Omega.{arith}
+use lib.ListN.{length}
+use Rattle.year.specs.declared.Setup.{Setup}
+use Rattle.year.specs.declared.Event.{Event}
+use Rattle.year.specs.Replay.{replay}
+use Rattle.year.specs.Model.{Model, NoSetup, Year, noSetup}
+use Rattle.year.proofs.Finer.{finer-work}
+use Rattle.journal.specs.Read.{readJournal}
+use Rattle.reference.specs.Call.{Call, ReadStatus, WriteMarks}
+use Rattle.reference.specs.Answers.{refusalOn, journalAfter, statusOf, answer, answerOf, markBytes, marksPart}
+use Rattle.reference.specs.Model.{modelOf, journalOf, setupAccepted}
+use Rattle.reference.specs.Demand2.{Shows}
+use Rattle.reference.specs.Demand3.{statusOn, Calculated, FinerJournal, BeforeSetup, AfterCalls, Demand3}
+use Rattle.reference.proofs.Stored.{stored-calls}
+use Rattle.reference.proofs.WithSetup.{model-has-setup, model-has-none}
+use Rattle.reference.proofs.Given.{accepted-gives, refused-gives, year-size, status-accepted, marks-accepted, status-none, marks-none}
+use Rattle.reference.proofs.Demand1.{demand-1}
+use Rattle.reference.proofs.Demand2.{demand-2}
+
+module _ (journal : List ℕ) (s : Setup) (es : List Event) (e : readJournal journal ≡ Year s es) where
+  fits : (out : List ℕ) → 2 * length (replay s es .tested) ≤ length out → refusalOn (WriteMarks (length out)) journal ≡ 0
+  fits out = marks-accepted journal (year-size journal s es e) (length out) s es e
+
+  reads : refusalOn ReadStatus journal ≡ 0
+  reads = status-accepted journal (year-size journal s es e) (ap noSetup e)
+
+  part : (out : List ℕ) → 2 * length (replay s es .tested) ≤ length out → marksPart journal out ≡ markBytes (Year s es)
+  unfolding marksPart
+  part out h = accepted-gives (WriteMarks (length out)) journal (markBytes (readJournal journal)) [] (fits out h) ∙ ap markBytes e
+
+  shown : Shows (statusOn journal) (replay s es)
+  shown = demand-2 .shown ReadStatus journal s es reads (ap readJournal (demand-1 .statusKept journal) ∙ e)
+
+  calculated : Calculated journal s es
+  calculated =
+      record {
+        marksAccepted = fits;
+        marks = part;
+        out = λ out h. demand-2 .marks journal out s es e (fits out h);
+        statusAccepted = reads;
+        verdict = shown .verdict;
+        cumsum = shown .cumsum;
+        limit = shown .limit;
+      }
+
+  finer-journal : (m : ℕ) → 1 ≤ m → FinerJournal m journal s es
+  finer-journal m pos = record { calculated = calculated; finer = finer-work s es m pos }
+
+-- a journal that holds no year
+before-setup : (journal : List ℕ) → length journal ≡ 544 → readJournal journal ≡ NoSetup → BeforeSetup journal
+unfolding answer
+before-setup journal n e = record { status = rw (status-none journal n e); marks = λ size. marks-none journal n size e }
+
+module _ (calls : List Call) (m : ℕ) (pos : 1 ≤ m) where
+  with-setup : (model : Model) → modelOf (reverse calls) ≡ model → noSetup model ≡ false
+      → (s : Setup) × (es : List Event) × (modelOf (reverse calls) ≡ Year s es) × FinerJournal m (journalOf (reverse calls)) s es
+  with-setup NoSetup e h = absurd (true≢false h)
+  with-setup (Year s es) e h =
+      (s, es, e, finer-journal (journalOf (reverse calls)) s es (stored-calls .every (reverse calls) .reads ∙ e) m pos)
+
+  after-calls : AfterCalls calls m
+  after-calls =
+      let held = stored-calls .every (reverse calls) in
+      record {
+        readsBack = held;
+        withSetup = λ h. with-setup (modelOf (reverse calls)) refl (model-has-setup (reverse calls) h);
+        withoutSetup = λ h. before-setup (journalOf (reverse calls)) (held .size) (held .reads ∙ model-has-none (reverse calls) h);
+      }
+
+pub demand-3 : Demand3
+demand-3 = record { lists = after-calls; others = finer-journal }

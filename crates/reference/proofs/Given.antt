@@ -1,0 +1,86 @@
+-- What the definitions give where a call is accepted and where it is refused, and which calls are accepted.
+-- Assumes nothing.
+use mathlib.Core.Path.{_≡_, refl, sym, ap, _∙_}
+use mathlib.Core.Logic.{_≢_}
+use mathlib.Core.Bool.{true, false, false≢true}
+use mathlib.Core.List.{List, [], _∷_}
+use Prim.Native.Nat.{ℕ, _*_, _≤_, _<_}
+use native.Mathlib.Omega.{arith}
+use lib.Dec.{eqb}
+use lib.ListN.{length, getD}
+use borrow.Author.Tests.{eq-eqb, ne-eqb, eqb-true, le-ltb}
+use Rattle.buffers.specs.Rows.{applies}
+use Rattle.buffers.proofs.Tests.{not-false}
+use Rattle.year.specs.declared.Setup.{Setup}
+use Rattle.year.specs.declared.Event.{Event}
+use Rattle.year.specs.Replay.{replay}
+use Rattle.year.specs.Admissible.{admissible}
+use Rattle.year.specs.Model.{Model, NoSetup, Year, noSetup}
+use Rattle.journal.specs.Read.{readJournal}
+use Rattle.journal.proofs.OneJournal.{demand}
+use Rattle.journal.proofs.Reading.{read-few}
+use Rattle.reference.specs.Call.{Entry, Call, SetUp, Enter, ReadStatus, WriteMarks, eventOf, isSetup}
+use Rattle.reference.specs.Refusals.{refusals, refusal}
+use Rattle.reference.specs.Answers.{refusalOn, refusalsOn, ifAccepted, journalAfter}
+use Rattle.reference.specs.Model.{accepted, stepModel}
+use Rattle.reference.proofs.Stored.{stored-calls}
+use Rattle.reference.proofs.Validity.{not-refused, admitted}
+
+module _ {A : Type 0} (call : Call) (journal : List ℕ) (x y : A) where
+  pub accepted-gives : refusalOn call journal ≡ 0 → ifAccepted call journal x y ≡ x
+  accepted-gives h = rw (eq-eqb (refusalOn call journal) 0 h)
+
+  pub refused-gives : refusalOn call journal ≢ 0 → ifAccepted call journal x y ≡ y
+  refused-gives h = rw (ne-eqb (refusalOn call journal) 0 h)
+
+-- of an accepted call: the journal has 544 bytes, and it holds a year but for a setup
+module _ (call : Call) (journal : List ℕ) (h : refusalOn call journal ≡ 0) where
+  no : (r : ℕ) → applies (refusalsOn call journal) r ≡ false
+  no = not-refused (length journal) call (readJournal journal) h
+
+  pub accepted-size : length journal ≡ 544
+  unfolding refusals
+  accepted-size = eqb-true (length journal) 544 (not-false (eqb (length journal) 544) (no 3))
+
+  pub accepted-year : isSetup call ≡ false → noSetup (readJournal journal) ≡ false
+  unfolding refusals
+  accepted-year k = let none = no 7 in rw k at none
+
+  pub accepted-refusal : refusal 544 call (readJournal journal) ≡ 0
+  accepted-refusal = rw accepted-size at h
+
+  -- it is a step of the model
+  pub accepted-reads : readJournal (journalAfter call journal) ≡ accepted call (readJournal journal)
+  unfolding stepModel
+  accepted-reads = stored-calls .step journal accepted-size call .reads ∙ rw (eq-eqb (refusal 544 call (readJournal journal)) 0 accepted-refusal)
+
+-- of an accepted entry: its event is admissible, and there is a slot for it
+module _ (entry : Entry) (journal : List ℕ) (s : Setup) (es : List Event) (e : readJournal journal ≡ Year s es) (h : refusalOn (Enter entry) journal ≡ 0) where
+  pub entry-admissible : admissible (replay s es) (eventOf s entry) ≡ true
+  entry-admissible = let a = accepted-refusal (Enter entry) journal h in admitted s es entry (rw e at a)
+
+  pub entry-room : getD journal 24 0 < 64
+  entry-room = rw (demand .accepted journal s es e .stored) (read-few journal s es (eventOf s entry) e entry-admissible)
+
+-- a journal that is read as a year has 544 bytes
+pub year-size : (journal : List ℕ) (s : Setup) (es : List Event) → readJournal journal ≡ Year s es → length journal ≡ 544
+year-size journal s es e = let j = demand .accepted journal s es e in ap length (j .stored) ∙ demand .size s es (j .valid)
+
+-- status and marks on 544 bytes: accepted where they hold a year and the output has room, otherwise refused by 7
+module _ (journal : List ℕ) (n : length journal ≡ 544) where
+  pub status-accepted : noSetup (readJournal journal) ≡ false → refusalOn ReadStatus journal ≡ 0
+  unfolding refusal refusals
+  status-accepted h = rw (n, h)
+
+  pub marks-accepted : (size : ℕ) (s : Setup) (es : List Event) → readJournal journal ≡ Year s es → 2 * length (replay s es .tested) ≤ size
+      → refusalOn (WriteMarks size) journal ≡ 0
+  unfolding refusal refusals
+  marks-accepted size s es e h = rw (n, e, le-ltb size (2 * length (replay s es .tested)) h)
+
+  pub status-none : readJournal journal ≡ NoSetup → refusalOn ReadStatus journal ≡ 7
+  unfolding refusal refusals
+  status-none e = rw (n, e)
+
+  pub marks-none : (size : ℕ) → readJournal journal ≡ NoSetup → refusalOn (WriteMarks size) journal ≡ 7
+  unfolding refusal refusals
+  marks-none size e = rw (n, e)

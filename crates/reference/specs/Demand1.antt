@@ -1,0 +1,44 @@
+-- Demand 1: what a call leaves in the lent buffers, and by which number it is refused, for every call and every length and content of the buffers.
+-- ("Each call ends" is the checker's verdict on the code.)
+-- Assumes nothing.
+use mathlib.Core.Path.{_≡_}
+use mathlib.Core.Logic.{_↔_, _≢_}
+use mathlib.Core.List.{List, []}
+use Prim.Native.Nat.{ℕ, _*_, _≤_, _<_}
+use lib.ListN.{length, getD}
+use Rattle.buffers.specs.Bytes.{Outside}
+use Rattle.buffers.specs.Rows.{FirstApplies, NoneApplies}
+use Rattle.year.specs.declared.Setup.{Setup}
+use Rattle.year.specs.declared.Event.{Event}
+use Rattle.year.specs.Model.{Year}
+use Rattle.journal.specs.Encode.{encode, slotPlace, append}
+use Rattle.journal.specs.Read.{readJournal}
+use Rattle.reference.specs.Call.{Entry, Call, SetUp, Enter, ReadStatus, WriteMarks, eventOf}
+use Rattle.reference.specs.Answers.{refusalsOn, refusalOn, journalAfter, noStatus, statusOf, answer, answerOf, outAfter, marksPart}
+
+pub record Demand1 : Type 0 where
+  -- "The book and the strip .. are, after a refused call, byte for byte what they were"
+  pub refusedJournal : (call : Call) (journal : List ℕ) → refusalOn call journal ≢ 0 → journalAfter call journal ≡ journal
+  pub refusedOut : (journal out : List ℕ) → refusalOn (WriteMarks (length out)) journal ≢ 0 → outAfter journal out ≡ out
+  -- "after an accepted call only the bytes that document 01 names for it have changed". A setup's are all 544
+  pub setupWritten : (s : Setup) (journal : List ℕ) → refusalOn (SetUp s) journal ≡ 0 → journalAfter (SetUp s) journal ≡ encode s []
+  pub setupSize : (s : Setup) (journal : List ℕ) → refusalOn (SetUp s) journal ≡ 0 → length (encode s []) ≡ 544
+  -- an entry's are its slot and byte 24: at every other index the byte is what it was, and there are as many
+  pub entryWritten : (entry : Entry) (journal : List ℕ) (s : Setup) (es : List Event) → readJournal journal ≡ Year s es
+      → refusalOn (Enter entry) journal ≡ 0 → journalAfter (Enter entry) journal ≡ append journal (eventOf s entry)
+  pub entryKept : (entry : Entry) (journal : List ℕ) (i : ℕ) → i ≢ 24 → Outside (slotPlace (getD journal 24 0)) 8 i
+      → getD (journalAfter (Enter entry) journal) i 0 ≡ getD journal i 0
+  pub entrySize : (entry : Entry) (journal : List ℕ) → length (journalAfter (Enter entry) journal) ≡ length journal
+  -- status and marks have none in the journal
+  pub statusKept : (journal : List ℕ) → journalAfter ReadStatus journal ≡ journal
+  pub marksKept : (size : ℕ) (journal : List ℕ) → journalAfter (WriteMarks size) journal ≡ journal
+  -- marks have the first 2n of the output: at every other index the byte is what it was, and there are as many
+  pub outKept : (journal out : List ℕ) (i : ℕ) → 2 * statusOf (readJournal journal) .n ≤ i → getD (outAfter journal out) i 0 ≡ getD out i 0
+  pub outSize : (journal out : List ℕ) → length (outAfter journal out) ≡ length out
+  -- "A call is refused only if one of 01's refusals applies, and the first that applies, in 01's order, is the one returned."
+  pub refusedBy : (call : Call) (journal : List ℕ) (r : ℕ) → 0 < r → (refusalOn call journal ≡ r) ↔ FirstApplies (refusalsOn call journal) r
+  pub accepted : (call : Call) (journal : List ℕ) → (refusalOn call journal ≡ 0) ↔ NoneApplies (refusalsOn call journal)
+  pub returned : (call : Call) (journal : List ℕ) → answerOf (answer call journal) .refusal ≡ refusalOn call journal
+  -- "every other figure of the answer zero, marks '-', N absent, and an empty part" (document 01, "Refused calls, in checking order")
+  pub refusedStatus : (call : Call) (journal : List ℕ) → refusalOn call journal ≢ 0 → answerOf (answer call journal) .status ≡ noStatus
+  pub refusedPart : (journal out : List ℕ) → refusalOn (WriteMarks (length out)) journal ≢ 0 → marksPart journal out ≡ []

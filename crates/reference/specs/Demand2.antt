@@ -1,0 +1,58 @@
+-- Demand 2: "Rounding, sample size, CumSum, action limit, marks and verdict equal the definitions", in what the calls store, answer and write; and one journal
+-- for each setup and list.
+-- Assumes nothing.
+use mathlib.Core.Path.{_≡_}
+use mathlib.Core.List.{List, [], _∷_, map}
+use Prim.Native.Nat.{ℕ, _≤_, _<_}
+use lib.ListN.{length}
+use Rattle.buffers.specs.Bytes.{put}
+use Rattle.statistics.specs.Spread.{total, deviationOf}
+use Rattle.statistics.specs.SampleSize.{sampleSizeOf}
+use Rattle.cumsum.specs.Intervals.{cumsum, actionLimit}
+use Rattle.cumsum.specs.Marks.{mark, markByte}
+use Rattle.year.specs.declared.Setup.{Setup}
+use Rattle.year.specs.declared.Event.{Event}
+use Rattle.year.specs.declared.Figures.{Figures}
+use Rattle.year.specs.declared.Status.{Status}
+use Rattle.year.specs.Setup.{Pollutant, Hcnox, Co}
+use Rattle.year.specs.Replay.{Progress, replay, history}
+use Rattle.year.specs.Verdict.{verdict}
+use Rattle.year.specs.Status.{blank, printedMarks}
+use Rattle.year.specs.Model.{Year}
+use Rattle.journal.specs.Read.{readJournal}
+use Rattle.journal.specs.OneJournal.{OneJournal}
+use Rattle.reference.specs.Call.{Entry, Call, SetUp, Enter, ReadStatus, WriteMarks, eventOf}
+use Rattle.reference.specs.Answers.{refusalOn, journalAfter, answer, answerOf, outAfter}
+
+abbrev pub figuresOf : Pollutant → Status → Figures
+figuresOf Hcnox status = status .hcnox
+figuresOf Co status = status .co
+
+-- a status shows the figures of a year as they are defined, at the calculator's resolution
+pub record Shows (status : Status) (p : Progress) : Type 0 where
+  pub n : status .n ≡ length (p .tested)
+  pub verdict : status .verdict ≡ verdict 1024 p
+  pub sum : (q : Pollutant) → figuresOf q status .sum ≡ total (history q (p .tested))
+  -- from engine 2 on
+  pub deviation : (q : Pollutant) → 2 ≤ length (p .tested) → figuresOf q status .deviation ≡ deviationOf 1024 (history q (p .tested))
+  pub cumsum : (q : Pollutant) → 2 ≤ length (p .tested) → figuresOf q status .cumsum ≡ cumsum 1024 (history q (p .tested))
+  pub limit : (q : Pollutant) → 2 ≤ length (p .tested) → figuresOf q status .limit ≡ actionLimit 1024 (history q (p .tested))
+  pub size : (q : Pollutant) → 2 ≤ length (p .tested) → figuresOf q status .size ≡ sampleSizeOf (history q (p .tested))
+  pub mark : (q : Pollutant) → 2 ≤ length (p .tested) → figuresOf q status .mark ≡ mark 1024 (history q (p .tested))
+  -- "Before engine 2 the figures other than n, S and verdict are zero and N is absent; with no engine the mark is '-'."
+  pub early : (q : Pollutant) → length (p .tested) < 2 → figuresOf q status ≡ blank (total (history q (p .tested)))
+
+pub record Demand2 : Type 0 where
+  -- what is stored: a setup as it is given, and an entry's event, an engine's with the results worked from its readings (`eventOf`)
+  pub setUp : (s : Setup) (journal : List ℕ) → refusalOn (SetUp s) journal ≡ 0 → readJournal (journalAfter (SetUp s) journal) ≡ Year s []
+  pub entered : (entry : Entry) (journal : List ℕ) (s : Setup) (es : List Event) → readJournal journal ≡ Year s es → refusalOn (Enter entry) journal ≡ 0
+      → readJournal (journalAfter (Enter entry) journal) ≡ Year s (eventOf s entry ∷ es)
+  -- what is answered: each figure of the year that the journal then holds, which is what status answers on that journal
+  pub shown : (call : Call) (journal : List ℕ) (s : Setup) (es : List Event) → refusalOn call journal ≡ 0 → readJournal (journalAfter call journal) ≡ Year s es
+      → Shows (answerOf (answer call journal) .status) (replay s es)
+  pub answered : (call : Call) (journal : List ℕ) → refusalOn call journal ≡ 0 → answer call journal ≡ answer ReadStatus (journalAfter call journal)
+  -- what is written: the marks, at the front of the output
+  pub marks : (journal out : List ℕ) (s : Setup) (es : List Event) → readJournal journal ≡ Year s es → refusalOn (WriteMarks (length out)) journal ≡ 0
+      → outAfter journal out ≡ put out 0 (map markByte (printedMarks 1024 (replay s es .tested)))
+  -- "For one setup, every list of accepted events .. has one book, and every accepted book reads back as its setup and list."
+  pub journals : OneJournal

@@ -1,0 +1,69 @@
+-- Demand 3: finer work beside what the calls give, after every list of calls on one journal that is all zero at the start, and on every accepted journal.
+-- Assumes nothing.
+use mathlib.Core.Path.{_≡_}
+use mathlib.Core.Bool.{true, false}
+use mathlib.Core.List.{List, map, reverse}
+use Prim.Native.Nat.{ℕ, _*_, _≤_}
+use lib.ListN.{length}
+use Rattle.buffers.specs.Bytes.{put}
+use Rattle.cumsum.specs.Marks.{markByte}
+use Rattle.year.specs.declared.Setup.{Setup}
+use Rattle.year.specs.declared.Event.{Event}
+use Rattle.year.specs.declared.Status.{Status}
+use Rattle.year.specs.Setup.{Pollutant}
+use Rattle.year.specs.Replay.{replay}
+use Rattle.year.specs.Model.{Year}
+use Rattle.year.specs.FinerWork.{FinerWork}
+use Rattle.journal.specs.Read.{readJournal}
+use Rattle.reference.specs.declared.Answer.the-variants.{Refused}
+use Rattle.reference.specs.Call.{Call, ReadStatus, WriteMarks}
+use Rattle.reference.specs.Answers.{refusalOn, answer, answerOf, outAfter, marksPart}
+use Rattle.reference.specs.Model.{modelOf, journalOf, setupAccepted, marksAt, verdictAt, cumsumAt, limitAt}
+use Rattle.reference.specs.Stored.{Holds}
+use Rattle.reference.specs.Demand2.{figuresOf}
+
+-- the figures that status gives on a journal
+abbrev pub statusOn : List ℕ → Status
+statusOn journal = answerOf (answer ReadStatus journal) .status
+
+-- what the calculator gives on a journal is the work at m = 1 of this setup and these events
+pub record Calculated (journal : List ℕ) (s : Setup) (es : List Event) : Type 0 where
+  -- "the strip, handed back in any buffer long enough, is the marks at m = 1"; and so are the bytes at the front of that buffer
+  pub marksAccepted : (out : List ℕ) → 2 * length (replay s es .tested) ≤ length out → refusalOn (WriteMarks (length out)) journal ≡ 0
+  pub marks : (out : List ℕ) → 2 * length (replay s es .tested) ≤ length out → marksPart journal out ≡ map markByte (marksAt 1 s es)
+  pub out : (out : List ℕ) → 2 * length (replay s es .tested) ≤ length out → outAfter journal out ≡ put out 0 (map markByte (marksAt 1 s es))
+  -- "the verdict from status is that at m = 1"
+  pub statusAccepted : refusalOn ReadStatus journal ≡ 0
+  pub verdict : statusOn journal .verdict ≡ verdictAt 1 s es
+  -- "The calculator's brackets are those at m = 1; from engine 2 on, status gives the newest engine's."
+  pub cumsum : (q : Pollutant) → 2 ≤ length (replay s es .tested) → figuresOf q (statusOn journal) .cumsum ≡ cumsumAt 1 s es q
+  pub limit : (q : Pollutant) → 2 ≤ length (replay s es .tested) → figuresOf q (statusOn journal) .limit ≡ limitAt 1 s es q
+
+-- a journal of this setup and these events: what the calculator gives on it, and work at m beside that
+pub record FinerJournal (m : ℕ) (journal : List ℕ) (s : Setup) (es : List Event) : Type 0 where
+  pub calculated : Calculated journal s es
+  -- the marks at m = 1 and at m, the verdicts, the brackets of every engine and their widths
+  pub finer : FinerWork m (replay s es)
+
+-- "Before an accepted setup, status and strip are refused by 7."
+pub record BeforeSetup (journal : List ℕ) : Type 0 where
+  pub status : answer ReadStatus journal ≡ Refused 7
+  pub marks : (size : ℕ) → refusalOn (WriteMarks size) journal ≡ 7
+
+-- after a list of calls, in the order in which they are made, the newest first in `modelOf` and `journalOf`
+module _ (calls : List Call) (m : ℕ) where
+  abbrev after : List Call
+  after = reverse calls
+
+  pub record AfterCalls : Type 0 where
+    -- the journal that the calls leave is read as the reference model, which is fed their arguments alone
+    pub readsBack : Holds (journalOf after) (modelOf after)
+    -- "every list of these calls with an accepted setup in it": the model then has a setup, whose finer work is this
+    pub withSetup : setupAccepted after ≡ true
+        → (s : Setup) × (es : List Event) × (modelOf after ≡ Year s es) × FinerJournal m (journalOf after) s es
+    pub withoutSetup : setupAccepted after ≡ false → BeforeSetup (journalOf after)
+
+pub record Demand3 : Type 0 where
+  pub lists : (calls : List Call) (m : ℕ) → 1 ≤ m → AfterCalls calls m
+  -- "this holds for every other accepted book too": "its strip is compared with the marks at m of the setup and list that it reads back as"
+  pub others : (journal : List ℕ) (s : Setup) (es : List Event) → readJournal journal ≡ Year s es → (m : ℕ) → 1 ≤ m → FinerJournal m journal s es
