@@ -43,7 +43,7 @@ fn engine_fits(p: Progress, number: u32, readings: u32, results: Pair) -> bool
 }
 
 // The next period: there is one, and the current one is not short.
-fn period_fits(p: Progress) -> bool
+pub fn period_fits(p: Progress) -> bool
     requires { ⌜ Consistent p ⌝ }
     ensures { λ r. ⌜ r ≡ fits (shown p) Event.NextPeriod ⌝ }
 {

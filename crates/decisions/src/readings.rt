@@ -1,0 +1,33 @@
+// What the table asks of an engine's readings.
+ghost use mathlib.Core.Path.{_≡_};
+ghost use Rattle.reference.specs.Refusals.{countsFit, allInRange, readingsFit};
+use buffers::both;
+use rounding::reading_in_range;
+
+// As many readings for each pollutant, 1 to 3.
+pub fn counts_fit(hcnox: &[u32], co: &[u32]) -> bool
+    ensures { λ r. ⌜ r ≡ countsFit (record { hcnox = now (hcnox .entry); co = now (co .entry) }) ⌝ }
+{
+    let n = hcnox.len();
+    both(n == co.len(), both(1 <= n, n <= 3))
+}
+
+// Every reading is in range.
+fn all_in_range(readings: &[u32]) -> bool
+    ensures { λ r. ⌜ r ≡ allInRange (now (readings .entry)) ⌝ }
+{
+    let mut i = 0;
+    while i < readings.len() {
+        if !reading_in_range(readings[i]) {
+            return false;
+        }
+        i += 1;
+    }
+    true
+}
+
+pub fn readings_fit(hcnox: &[u32], co: &[u32]) -> bool
+    ensures { λ r. ⌜ r ≡ readingsFit (record { hcnox = now (hcnox .entry); co = now (co .entry) }) ⌝ }
+{
+    both(all_in_range(hcnox), all_in_range(co))
+}
