@@ -9,7 +9,7 @@ use native.Mathlib.Nat.{sub-zero, zero-sub, suc-sub-suc}
 use native.Mathlib.Numerals.{add-one}
 use native.Mathlib.Omega.{arith}
 use lib.ListN.{length, getD, take, drop, set, drop-of-length-le, length-append, length-take, length-drop, length-replicate}
-use lib.Seq.{sets, sets-eq, set-split, getD-set-other, drop-cons, append-snoc, take-all, take-nil}
+use lib.Seq.{sets, sets-eq, set-split, getD-set-other, drop-cons, append-snoc, take-all, take-nil, take-at, drop-at, drop-drop}
 use borrow.Author.Tests.{ne-eqb}
 use borrow.Rule.Slice.PartMut.{putMid, post-is}
 use Rattle.buffers.specs.Bytes.{put, Outside, zeros, isZero}
@@ -88,6 +88,23 @@ module _ (buffer : List ℕ) (place : ℕ) where
   pub length-put : (bytes : List ℕ) → place + length bytes ≤ length buffer → length (put buffer place bytes) ≡ length buffer
   unfolding put
   length-put bytes h = simp (length-append, length-take, length-drop) (omega arith)
+
+  -- bytes put after those just put
+  pub put-put : (xs ys : List ℕ) → place ≤ length buffer → put (put buffer place xs) (place + length xs) ys ≡ put buffer place (xs ++ ys)
+  unfolding put
+  put-put xs ys h =
+      let front = take place buffer ++ xs in
+      let rest = drop (place + length xs) buffer in
+      let long : length front ≡ place + length xs = simp (length-append, length-take) (omega arith) in
+      let both : place + length xs + length ys ≡ place + length (xs ++ ys) = omega (arith, length-append xs ys) in
+      rw (
+        take-at front rest (place + length xs) long,
+        ← drop-drop (length ys) (place + length xs) (front ++ rest),
+        drop-at front rest (place + length xs) long,
+        drop-drop (length ys) (place + length xs) buffer,
+        both,
+        append-assoc (take place buffer) xs ys,
+      )
 
 -- ---- bytes put over a buffer's own leave it as it was at every other index
 

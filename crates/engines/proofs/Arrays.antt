@@ -13,7 +13,7 @@ use lib.Dec.{eqb}
 use lib.ListN.{length, getD, set, length-set}
 use lib.Seq.{getD-set-same, getD-set-other}
 use Rattle.statistics.specs.Spread.{Test}
-use Rattle.statistics.specs.Ranges.{TestsInRange}
+use Rattle.statistics.specs.Ranges.{TestsInRange, HistoryInRange}
 use Rattle.year.specs.declared.Pair.{Pair}
 use Rattle.year.specs.Setup.{Pollutant, Hcnox, Co}
 use Rattle.year.specs.Replay.{Tested, history, isTested}
@@ -122,17 +122,29 @@ module _ (numbers : List ℕ) (number i : ℕ) (h : 1 ≤ i) where
   pub among-passed : (getD numbers (i - 1) 0 ≡ number → ⊥) → among numbers number (i - 1) ≡ among numbers number i
   among-passed f = sym (among-next numbers number i h ∙ rw (ne-eqb _ _ f))
 
--- the room for the engine at a place, in figures worked from the arrays
-module _ (xs ts : List ℕ) (count k i : ℕ) (r : ReworkInRange xs ts count k) (h : i < count) where
-  pub rework-room : (f : Running) → f ≡ running k (testsTo xs ts i) → RunningInRange k f (getD xs i 0)
-  rework-room f e =
+-- a pollutant's arrays are in range where its history is
+pub tested-fits : (q : Pollutant) (e : Engines) (k : ℕ) → HistoryInRange 40 (history q (tested e)) → k ≤ 8192
+    → ReworkInRange (resultsOf q e) (standardsOf q e) (e .count) k
+tested-fits q e k r fine = record { history = rw (← tested-history q e (e .count)) r; fine = fine }
+
+-- figures worked from the arrays: how many engines there are, the ranges of an earlier part, and the room for the newest engine
+module _ (xs ts : List ℕ) (k : ℕ) where
+  pub rework-few : (n : ℕ) → ReworkInRange xs ts n k → n ≤ 40
+  rework-few n r = omega (arith, r .history .few, tests-length xs ts n)
+
+  pub rework-before : (n i : ℕ) → i ≤ n → ReworkInRange xs ts n k → ReworkInRange xs ts i k
+  rework-before n i h r =
+      record {
+        history = record { few = omega (arith, rework-few n r, tests-length xs ts i); tests = tests-before xs ts n i h (r .history .tests) };
+        fine = r .fine;
+      }
+
+  pub rework-room : (i : ℕ) (f : Running) → ReworkInRange xs ts (suc i) k → f ≡ running k (testsTo xs ts i) → RunningInRange k f (getD xs i 0)
+  rework-room i f r e =
       record {
         history = testsTo xs ts i;
         worked = e;
-        inRange = record {
-          few = omega (arith, r .history .few, tests-length xs ts i, tests-length xs ts count);
-          tests = tests-before xs ts count i (omega arith) (r .history .tests);
-        };
-        result = tests-before xs ts count (suc i) h (r .history .tests) .0;
+        inRange = record { few = omega (arith, rework-few (suc i) r, tests-length xs ts i); tests = r .history .tests .2 };
+        result = r .history .tests .0;
         fine = r .fine;
       }

@@ -1,6 +1,6 @@
 // The figures of one pollutant worked from the arrays, at any resolution.
 ghost use mathlib.Core.Path.{_≡_};
-ghost use Prim.Native.Nat.{_<_};
+ghost use Prim.Native.Nat.{_+_, _<_};
 ghost use lib.ListN.{getD};
 ghost use Rattle.figures.specs.Running.{running};
 ghost use Rattle.engines.specs.Engines.{testsTo, ReworkInRange};
@@ -16,6 +16,25 @@ fn number_at(numbers: [u16; 40], i: usize) -> u32
     numbers[i] as u32
 }
 
+// The figures of the engines before a place, with the engine at that place.
+pub fn add_at(
+    f: Running,
+    results: [u16; 40],
+    standards: [u16; 40],
+    i: usize,
+    resolution: u64,
+) -> Running
+    requires { ⌜ ReworkInRange results standards (i + 1) resolution × (f ≡ running resolution (testsTo results standards i)) ⌝ }
+    ensures { λ r. ⌜ r ≡ running resolution (testsTo results standards (i + 1)) ⌝ }
+{
+    add(
+        f,
+        number_at(results, i),
+        number_at(standards, i),
+        resolution,
+    )
+}
+
 pub fn running_at(
     results: [u16; 40],
     standards: [u16; 40],
@@ -28,12 +47,7 @@ pub fn running_at(
     let mut f = start();
     let mut i: usize = 0;
     while i < count {
-        f = add(
-            f,
-            number_at(results, i),
-            number_at(standards, i),
-            resolution,
-        );
+        f = add_at(f, results, standards, i, resolution);
         i += 1;
     }
     f

@@ -16,7 +16,7 @@ use Rattle.year.proofs.Ranges.{standard-le, tested-in-le, engine-number, engine
 use Rattle.figures.specs.declared.Running.{Running}
 use Rattle.figures.specs.Running.{running, RunningInRange, Worked}
 use Rattle.engines.specs.Engines.{resultsOf, standardsOf, tested, testsTo, EngineInRange, ReworkInRange}
-use Rattle.engines.proofs.Arrays.{tested-length, tested-history}
+use Rattle.engines.proofs.Arrays.{tested-length, tested-history, tested-fits}
 use Rattle.progress.specs.declared.Progress.{Progress as State}
 use Rattle.progress.specs.State.{shown, Consistent}
 use borrow.Author.Tests.{leb-true}
@@ -56,7 +56,7 @@ module _ (p : State) (c : Consistent p) where
   -- the figures worked from the arrays: the ranges are met, and they are the year's
   module _ (k : ℕ) (q : Pollutant) where
     pub rework-fits : k ≤ 8192 → ReworkInRange (resultsOf q (p .engines)) (standardsOf q (p .engines)) (p .engines .count) k
-    rework-fits fine = record { history = rw (← tested-history q (p .engines) (p .engines .count)) (c .inRange .histories q); fine = fine }
+    rework-fits fine = tested-fits q (p .engines) k (c .inRange .histories q) fine
 
     pub reworked : (f : Running) → f ≡ running k (testsTo (resultsOf q (p .engines)) (standardsOf q (p .engines)) (p .engines .count))
         → f ≡ running k (history q (tested (p .engines)))
