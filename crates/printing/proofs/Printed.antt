@@ -1,11 +1,11 @@
 -- The bytes of the marks of the engines before a place, with one engine more, and a buffer in which they stand.
 -- Assumes nothing.
-use mathlib.Core.Path.{_≡_, refl}
+use mathlib.Core.Path.{_≡_, ap, _∙_}
 use mathlib.Core.List.{List, [], _∷_, _++_, map, map-append}
-use Prim.Native.Nat.{ℕ, zero, suc, _+_, _*_, _≤_}
+use Prim.Native.Nat.{ℕ, suc, _+_, _*_, _≤_}
 use native.Mathlib.Numerals.{add-one}
 use native.Mathlib.Omega.{arith}
-use lib.ListN.{length, length-append}
+use lib.ListN.{length, length-map}
 use Rattle.buffers.specs.Bytes.{put}
 use Rattle.buffers.proofs.Lists.{put-put, length-put}
 use Rattle.cumsum.specs.Marks.{mark, markByte}
@@ -14,9 +14,10 @@ use Rattle.figures.specs.Running.{running}
 use Rattle.year.specs.Setup.{Pollutant, Hcnox, Co}
 use Rattle.year.specs.Replay.{history}
 use Rattle.year.specs.Status.{printedMarks}
+use Rattle.year.proofs.Kept.{printed-length}
 use Rattle.engines.specs.declared.Engines.{Engines}
 use Rattle.engines.specs.Engines.{resultsOf, standardsOf, testedTo, testsTo, ReworkInRange}
-use Rattle.engines.proofs.Arrays.{tested-history, tested-fits, rework-few, rework-before}
+use Rattle.engines.proofs.Arrays.{tested-length, tested-history, tested-fits, rework-few, rework-before}
 use Rattle.printing.specs.Ranges.{MarksInRange}
 
 module _ (k : ℕ) (e : Engines) where
@@ -47,8 +48,7 @@ module _ (k : ℕ) (e : Engines) where
   bytes-next i = map-append markByte (printedMarks k (testedTo e i)) _
 
   length-bytes : (i : ℕ) → length (bytesTo i) ≡ 2 * i
-  length-bytes zero = refl
-  length-bytes (suc i) = rw (bytes-next i) (omega (arith, length-append (bytesTo i) (pair (suc i)), length-bytes i))
+  length-bytes i = length-map (printedMarks k (testedTo e i)) markByte ∙ printed-length k (testedTo e i) ∙ ap (λ (n : ℕ). 2 * n) (tested-length e i)
 
   -- a buffer in which these bytes stand at the front: its length, and the marks of one engine more
   module _ (out : List ℕ) (i : ℕ) (printed : List ℕ) (p : printed ≡ put out 0 (bytesTo i)) where

@@ -27,13 +27,11 @@ use Rattle.journal.specs.Encode.{slotPlace, slotOf, append}
 use Rattle.journal.specs.Read.{readJournal}
 use Rattle.journal.proofs.Encoded.{length-slot}
 use Rattle.journal.proofs.OneJournal.{demand}
-use Rattle.reference.specs.declared.Answer.{Answer}
-use Rattle.reference.specs.declared.Answer.the-variants.{Accepted, Refused}
 use Rattle.reference.specs.Call.{Entry, Call, SetUp, Enter, ReadStatus, WriteMarks, eventOf}
 use Rattle.reference.specs.Refusals.{refusals, refusal}
-use Rattle.reference.specs.Answers.{refusalsOn, refusalOn, ifAccepted, withEntry, written, journalAfter, noStatus, statusOf, answer, answerOf, markBytes, outAfter, marksPart}
+use Rattle.reference.specs.Answers.{refusalsOn, refusalOn, ifAccepted, withEntry, written, journalAfter, noStatus, statusOf, answer, Told, answerOf, told, markBytes, outAfter, marksPart}
 use Rattle.reference.specs.Demand1.{Demand1}
-use Rattle.reference.proofs.Given.{accepted-gives, refused-gives, accepted-size, accepted-refusal, entry-room}
+use Rattle.reference.proofs.Given.{accepted-gives, refused-gives, refused-answer, answer-told, accepted-size, accepted-refusal, entry-room}
 use Rattle.reference.proofs.Validity.{refusals-numbered, setup-valid, not-refused}
 
 -- ---- refused calls
@@ -51,18 +49,12 @@ unfolding marksPart
 refused-part journal out h = refused-gives (WriteMarks (length out)) journal (markBytes (readJournal journal)) [] h
 
 module _ (call : Call) (journal : List ℕ) where
-  abbrev told : Answer
-  told = Accepted (statusOf (readJournal (journalAfter call journal)))
-
   refused-status : refusalOn call journal ≢ 0 → answerOf (answer call journal) .status ≡ noStatus
-  unfolding answer
-  refused-status h = ap (λ a. answerOf a .status) (refused-gives call journal told (Refused (refusalOn call journal)) h)
+  refused-status h = ap (λ a. answerOf a .status) (refused-answer call journal h)
 
   returned : answerOf (answer call journal) .refusal ≡ refusalOn call journal
-  unfolding answer
-  returned =
-      by-test (λ a. answerOf a .refusal ≡ refusalOn call journal) (eqb (refusalOn call journal) 0) told (Refused (refusalOn call journal))
-      (λ e. sym (eqb-true (refusalOn call journal) 0 e)) (λ _. refl)
+  unfolding told
+  returned = ap (λ (t : Told). t .refusal) (answer-told call journal)
 
 -- ---- a setup
 
@@ -110,7 +102,7 @@ module _ (journal : List ℕ) (e : Event) (n : length journal ≡ 544) (room : s
 
 -- ---- marks
 
-out-fits : (journal : List ℕ) (size : ℕ) → refusalOn (WriteMarks size) journal ≡ 0 → 2 * statusOf (readJournal journal) .n ≤ size
+pub out-fits : (journal : List ℕ) (size : ℕ) → refusalOn (WriteMarks size) journal ≡ 0 → 2 * statusOf (readJournal journal) .n ≤ size
 unfolding refusals
 out-fits journal size h = by (readJournal journal) (not-refused (length journal) (WriteMarks size) (readJournal journal) h 16)
   where
@@ -118,7 +110,7 @@ out-fits journal size h = by (readJournal journal) (not-refused (length journal)
     by NoSetup row = omega arith
     by (Year s es) row = ltb-false size (2 * length (replay s es .tested)) row
 
-mark-bytes : (model : Model) → length (markBytes model) ≡ 2 * statusOf model .n
+pub mark-bytes : (model : Model) → length (markBytes model) ≡ 2 * statusOf model .n
 mark-bytes NoSetup = refl
 mark-bytes (Year s es) = length-map (printedMarks 1024 (replay s es .tested)) markByte ∙ printed-length 1024 (replay s es .tested)
 

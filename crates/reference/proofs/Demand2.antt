@@ -1,12 +1,14 @@
 -- Demand 2, proved.
 -- Assumes nothing.
 use mathlib.Core.Path.{_≡_, refl, sym, ap, _∙_}
-use mathlib.Core.Bool.{false}
+use mathlib.Core.Bool.{Bool, true, false, cond}
 use mathlib.Core.List.{List, [], _∷_}
-use Prim.Native.Nat.{ℕ, _≤_, _<_}
+use Prim.Native.Nat.{ℕ, _+_, _≤_, _<_}
 use native.Mathlib.Nat.{add-zero}
 use native.Mathlib.Omega.{arith}
-use lib.ListN.{length}
+use lib.Dec.{eqb}
+use lib.ListN.{length, take, drop}
+use lib.Seq.{take-append-seam}
 use Rattle.buffers.specs.Bytes.{put}
 use Rattle.statistics.specs.Spread.{Test, total, deviationOf}
 use Rattle.statistics.specs.SampleSize.{sampleSizeOf}
@@ -22,14 +24,14 @@ use Rattle.year.specs.Model.{Model, NoSetup, Year, noSetup}
 use Rattle.year.proofs.Replayed.{history-length}
 use Rattle.journal.specs.Read.{readJournal}
 use Rattle.journal.proofs.OneJournal.{demand}
-use Rattle.reference.specs.declared.Answer.the-variants.{Accepted, Refused}
+use Rattle.reference.specs.declared.Answer.the-variants.{Accepted}
 use Rattle.reference.specs.Call.{Call, SetUp, Enter, ReadStatus, WriteMarks, isSetup}
-use Rattle.reference.specs.Answers.{refusalOn, journalAfter, statusOf, answer, answerOf, markBytes, outAfter}
+use Rattle.reference.specs.Answers.{refusalOn, journalAfter, statusOf, answer, markBytes, outAfter, marksPart}
 use Rattle.reference.specs.Model.{accepted}
 use Rattle.reference.specs.Demand2.{figuresOf, Shows, Demand2}
 use Rattle.reference.proofs.Stored.{stored-calls}
 use Rattle.reference.proofs.WithSetup.{accepted-has}
-use Rattle.reference.proofs.Given.{accepted-gives, accepted-size, accepted-year, accepted-reads, status-accepted}
+use Rattle.reference.proofs.Given.{accepted-gives, accepted-answer, accepted-size, accepted-year, accepted-reads, status-accepted}
 use Rattle.reference.proofs.Demand1.{demand-1}
 
 -- ---- the figures of one pollutant
@@ -95,10 +97,6 @@ module _ (p : Progress) where
 -- ---- what is answered
 
 module _ (call : Call) (journal : List ℕ) (h : refusalOn call journal ≡ 0) where
-  pub accepted-answer : answer call journal ≡ Accepted (statusOf (readJournal (journalAfter call journal)))
-  unfolding answer
-  accepted-answer = accepted-gives call journal (Accepted (statusOf (readJournal (journalAfter call journal)))) (Refused (refusalOn call journal)) h
-
   -- the journal after an accepted call holds a year
   after-year : noSetup (readJournal (journalAfter call journal)) ≡ false
   after-year = ap noSetup (accepted-reads call journal h) ∙ by call (accepted-year call journal h)
@@ -117,6 +115,21 @@ answered call journal h =
     let same : statusOf (readJournal (journalAfter ReadStatus left)) ≡ statusOf (readJournal left) = ap (λ b. statusOf (readJournal b)) (demand-1 .statusKept left) in
     accepted-answer call journal h ∙ ap Accepted (sym same) ∙ sym (accepted-answer ReadStatus left (status-accepted left n (after-year call journal h)))
 
+-- ---- the part that is handed back
+
+front : (out bytes : List ℕ) → take (length bytes) (put out 0 bytes) ≡ bytes
+unfolding put
+front out bytes = take-append-seam bytes (drop (0 + length bytes) out)
+
+handed-back : (journal out : List ℕ) → take (length (marksPart journal out)) (outAfter journal out) ≡ marksPart journal out
+unfolding marksPart outAfter
+handed-back journal out = by (eqb (refusalOn (WriteMarks (length out)) journal) 0)
+  where
+    by : (b : Bool)
+        → take (length (cond b (markBytes (readJournal journal)) [])) (cond b (put out 0 (markBytes (readJournal journal))) out) ≡ cond b (markBytes (readJournal journal)) []
+    by true = front out (markBytes (readJournal journal))
+    by false = refl
+
 pub demand-2 : Demand2
 unfolding outAfter
 demand-2 =
@@ -127,5 +140,6 @@ demand-2 =
       answered = answered;
       marks = λ journal out s es e h.
           accepted-gives (WriteMarks (length out)) journal (put out 0 (markBytes (readJournal journal))) out h ∙ rw e;
+      handedBack = handed-back;
       journals = demand;
     }

@@ -1,7 +1,7 @@
 -- Demand 3, proved.
 -- Assumes nothing.
-use mathlib.Core.Path.{_≡_, refl, ap, _∙_}
-use mathlib.Core.Bool.{false, true≢false}
+use mathlib.Core.Path.{_≡_, ap, _∙_}
+use mathlib.Core.Bool.{false}
 use mathlib.Core.List.{List, [], reverse}
 use Prim.Native.Nat.{ℕ, _*_, _≤_}
 use native.Mathlib.Omega.{arith}
@@ -9,7 +9,7 @@ use lib.ListN.{length}
 use Rattle.year.specs.declared.Setup.{Setup}
 use Rattle.year.specs.declared.Event.{Event}
 use Rattle.year.specs.Replay.{replay}
-use Rattle.year.specs.Model.{Model, NoSetup, Year, noSetup}
+use Rattle.year.specs.Model.{NoSetup, Year, noSetup}
 use Rattle.year.proofs.Finer.{finer-work}
 use Rattle.journal.specs.Read.{readJournal}
 use Rattle.reference.specs.Call.{Call, ReadStatus, WriteMarks}
@@ -19,7 +19,7 @@ use Rattle.reference.specs.Demand2.{Shows}
 use Rattle.reference.specs.Demand3.{statusOn, Calculated, FinerJournal, BeforeSetup, AfterCalls, Demand3}
 use Rattle.reference.proofs.Stored.{stored-calls}
 use Rattle.reference.proofs.WithSetup.{model-has-setup, model-has-none}
-use Rattle.reference.proofs.Given.{accepted-gives, refused-gives, year-size, status-accepted, marks-accepted, status-none, marks-none}
+use Rattle.reference.proofs.Given.{accepted-gives, held-year, year-size, status-accepted, marks-accepted, status-none, marks-none}
 use Rattle.reference.proofs.Demand1.{demand-1}
 use Rattle.reference.proofs.Demand2.{demand-2}
 
@@ -58,18 +58,18 @@ unfolding answer
 before-setup journal n e = record { status = rw (status-none journal n e); marks = λ size. marks-none journal n size e }
 
 module _ (calls : List Call) (m : ℕ) (pos : 1 ≤ m) where
-  with-setup : (model : Model) → modelOf (reverse calls) ≡ model → noSetup model ≡ false
+  with-setup : noSetup (modelOf (reverse calls)) ≡ false
       → (s : Setup) × (es : List Event) × (modelOf (reverse calls) ≡ Year s es) × FinerJournal m (journalOf (reverse calls)) s es
-  with-setup NoSetup e h = absurd (true≢false h)
-  with-setup (Year s es) e h =
-      (s, es, e, finer-journal (journalOf (reverse calls)) s es (stored-calls .every (reverse calls) .reads ∙ e) m pos)
+  with-setup h =
+      let year = held-year (modelOf (reverse calls)) h in
+      (year .0, year .1, year .2, finer-journal (journalOf (reverse calls)) (year .0) (year .1) (stored-calls .every (reverse calls) .reads ∙ year .2) m pos)
 
   after-calls : AfterCalls calls m
   after-calls =
       let held = stored-calls .every (reverse calls) in
       record {
         readsBack = held;
-        withSetup = λ h. with-setup (modelOf (reverse calls)) refl (model-has-setup (reverse calls) h);
+        withSetup = λ h. with-setup (model-has-setup (reverse calls) h);
         withoutSetup = λ h. before-setup (journalOf (reverse calls)) (held .size) (held .reads ∙ model-has-none (reverse calls) h);
       }
 

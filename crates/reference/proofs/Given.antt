@@ -1,9 +1,9 @@
 -- What the definitions give where a call is accepted and where it is refused, and which calls are accepted.
 -- Assumes nothing.
-use mathlib.Core.Path.{_≡_, refl, sym, ap, _∙_}
+use mathlib.Core.Path.{_≡_, refl, ap, _∙_}
 use mathlib.Core.Logic.{_≢_}
-use mathlib.Core.Bool.{true, false, false≢true}
-use mathlib.Core.List.{List, [], _∷_}
+use mathlib.Core.Bool.{Bool, true, false, cond, true≢false}
+use mathlib.Core.List.{List}
 use Prim.Native.Nat.{ℕ, _*_, _≤_, _<_}
 use native.Mathlib.Omega.{arith}
 use lib.Dec.{eqb}
@@ -13,15 +13,17 @@ use Rattle.buffers.specs.Rows.{applies}
 use Rattle.buffers.proofs.Tests.{not-false}
 use Rattle.year.specs.declared.Setup.{Setup}
 use Rattle.year.specs.declared.Event.{Event}
+use Rattle.year.specs.declared.Status.{Status}
 use Rattle.year.specs.Replay.{replay}
 use Rattle.year.specs.Admissible.{admissible}
 use Rattle.year.specs.Model.{Model, NoSetup, Year, noSetup}
 use Rattle.journal.specs.Read.{readJournal}
 use Rattle.journal.proofs.OneJournal.{demand}
 use Rattle.journal.proofs.Reading.{read-few}
-use Rattle.reference.specs.Call.{Entry, Call, SetUp, Enter, ReadStatus, WriteMarks, eventOf, isSetup}
+use Rattle.reference.specs.declared.Answer.the-variants.{Accepted, Refused}
+use Rattle.reference.specs.Call.{Entry, Call, Enter, ReadStatus, WriteMarks, eventOf, isSetup}
 use Rattle.reference.specs.Refusals.{refusals, refusal}
-use Rattle.reference.specs.Answers.{refusalOn, refusalsOn, ifAccepted, journalAfter}
+use Rattle.reference.specs.Answers.{refusalOn, refusalsOn, ifAccepted, journalAfter, noStatus, statusOf, answer, answerOf, told}
 use Rattle.reference.specs.Model.{accepted, stepModel}
 use Rattle.reference.proofs.Stored.{stored-calls}
 use Rattle.reference.proofs.Validity.{not-refused, admitted}
@@ -32,6 +34,36 @@ module _ {A : Type 0} (call : Call) (journal : List ℕ) (x y : A) where
 
   pub refused-gives : refusalOn call journal ≢ 0 → ifAccepted call journal x y ≡ y
   refused-gives h = rw (ne-eqb (refusalOn call journal) 0 h)
+
+-- a model with a setup is a year
+pub held-year : (model : Model) → noSetup model ≡ false → (s : Setup) × (es : List Event) × (model ≡ Year s es)
+held-year NoSetup h = absurd (true≢false h)
+held-year (Year s es) h = (s, es, refl)
+
+-- the answer, and what it tells
+module _ (call : Call) (journal : List ℕ) where
+  abbrev status : Status
+  status = statusOf (readJournal (journalAfter call journal))
+
+  abbrev number : ℕ
+  number = refusalOn call journal
+
+  pub accepted-answer : number ≡ 0 → answer call journal ≡ Accepted status
+  unfolding answer
+  accepted-answer h = accepted-gives call journal (Accepted status) (Refused number) h
+
+  pub refused-answer : number ≢ 0 → answer call journal ≡ Refused number
+  unfolding answer
+  refused-answer h = refused-gives call journal (Accepted status) (Refused number) h
+
+  pub answer-told : answerOf (answer call journal) ≡ told call journal
+  unfolding answer told
+  answer-told = by (eqb number 0) refl
+    where
+      by : (b : Bool) → eqb number 0 ≡ b
+          → answerOf (cond b (Accepted status) (Refused number)) ≡ record { refusal = number; status = cond b status noStatus }
+      by true e = rw (eqb-true number 0 e)
+      by false e = refl
 
 -- of an accepted call: the journal has 544 bytes, and it holds a year but for a setup
 module _ (call : Call) (journal : List ℕ) (h : refusalOn call journal ≡ 0) where

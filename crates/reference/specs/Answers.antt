@@ -16,6 +16,7 @@ use Rattle.journal.specs.Encode.{encode, append}
 use Rattle.journal.specs.Read.{readJournal}
 use Rattle.reference.specs.declared.Answer.{Answer}
 use Rattle.reference.specs.declared.Answer.the-variants.{Accepted, Refused}
+use Rattle.reference.specs.declared.Written.{Written}
 use Rattle.reference.specs.Call.{Entry, Call, SetUp, Enter, ReadStatus, WriteMarks, eventOf}
 use Rattle.reference.specs.Refusals.{refusals, refusal}
 
@@ -70,6 +71,11 @@ abbrev pub answerOf : Answer → Told
 answerOf (Accepted s) = record { refusal = 0; status = s }
 answerOf (Refused number) = record { refusal = number; status = noStatus }
 
+-- what is told of a call: "A refusal returns its number, every other figure of the answer zero, marks '-', N absent"
+unfoldable pub told : Call → List ℕ → Told
+told call journal =
+    record { refusal = refusalOn call journal; status = ifAccepted call journal (statusOf (readJournal (journalAfter call journal))) noStatus }
+
 -- the bytes of the marks, "two marks per engine, HC+NOx then CO"
 abbrev pub markBytes : Model → List ℕ
 markBytes NoSetup = []
@@ -82,3 +88,7 @@ outAfter journal out = ifAccepted (WriteMarks (length out)) journal (put out 0 (
 -- "and hands back just that written part of the buffer", or "an empty part" where it is refused
 unfoldable pub marksPart : List ℕ → List ℕ → List ℕ
 marksPart journal out = ifAccepted (WriteMarks (length out)) journal (markBytes (readJournal journal)) []
+
+-- what it tells beside them: its refusal, and how many bytes it wrote, none where it is refused
+abbrev pub marksTold : List ℕ → List ℕ → Written
+marksTold journal out = record { refusal = refusalOn (WriteMarks (length out)) journal; length = length (marksPart journal out) }

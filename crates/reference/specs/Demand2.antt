@@ -4,7 +4,7 @@
 use mathlib.Core.Path.{_≡_}
 use mathlib.Core.List.{List, [], _∷_, map}
 use Prim.Native.Nat.{ℕ, _≤_, _<_}
-use lib.ListN.{length}
+use lib.ListN.{length, take}
 use Rattle.buffers.specs.Bytes.{put}
 use Rattle.statistics.specs.Spread.{total, deviationOf}
 use Rattle.statistics.specs.SampleSize.{sampleSizeOf}
@@ -22,7 +22,7 @@ use Rattle.year.specs.Model.{Year}
 use Rattle.journal.specs.Read.{readJournal}
 use Rattle.journal.specs.OneJournal.{OneJournal}
 use Rattle.reference.specs.Call.{Entry, Call, SetUp, Enter, ReadStatus, WriteMarks, eventOf}
-use Rattle.reference.specs.Answers.{refusalOn, journalAfter, answer, answerOf, outAfter}
+use Rattle.reference.specs.Answers.{refusalOn, journalAfter, answer, answerOf, outAfter, marksPart}
 
 abbrev pub figuresOf : Pollutant → Status → Figures
 figuresOf Hcnox status = status .hcnox
@@ -54,5 +54,7 @@ pub record Demand2 : Type 0 where
   -- what is written: the marks, at the front of the output
   pub marks : (journal out : List ℕ) (s : Setup) (es : List Event) → readJournal journal ≡ Year s es → refusalOn (WriteMarks (length out)) journal ≡ 0
       → outAfter journal out ≡ put out 0 (map markByte (printedMarks 1024 (replay s es .tested)))
+  -- "and hands back just that written part": the front of the output
+  pub handedBack : (journal out : List ℕ) → take (length (marksPart journal out)) (outAfter journal out) ≡ marksPart journal out
   -- "For one setup, every list of accepted events .. has one book, and every accepted book reads back as its setup and list."
   pub journals : OneJournal

@@ -25,6 +25,11 @@ pub as-promised : (r : Scanned) {m n : Model} → m ≡ n → Tells r m
     → (r .accepted ≡ not (noSetup n)) × ((shown (r .progress) ≡ progressOf n) × (r .accepted ≡ true → Consistent (r .progress)))
 as-promised r e t = let u = subst (Tells r) e t in (u .accepted, (u .year, u .consistent))
 
+-- and back, for a caller
+pub tells : (r : Scanned) (m : Model)
+    → (r .accepted ≡ not (noSetup m)) × ((shown (r .progress) ≡ progressOf m) × (r .accepted ≡ true → Consistent (r .progress))) → Tells r m
+tells r m p = record { accepted = p .0; year = p .1 .0; consistent = p .1 .1 }
+
 module _ (journal : List ℕ) where
   abbrev count : ℕ
   count = getD journal 24 0

@@ -1,0 +1,83 @@
+-- What is done with the decision on an entry is what the definitions say of the entry on the journal, and can be done.
+-- Assumes nothing.
+use mathlib.Core.Path.{_≡_, refl, sym, ap, _∙_}
+use mathlib.Core.Bool.{true}
+use mathlib.Core.List.{List, _∷_}
+use Prim.Native.Nat.{ℕ}
+use lib.Dec.{eqb}
+use borrow.Author.Tests.{eqb-true, eqb-false}
+use Rattle.buffers.proofs.Tests.{by-test}
+use Rattle.year.specs.declared.Setup.{Setup}
+use Rattle.year.specs.declared.Event.{Event}
+use Rattle.year.specs.Replay.{replay}
+use Rattle.year.specs.Model.{Year}
+use Rattle.year.proofs.Replayed.{replay-setup}
+use Rattle.progress.specs.State.{shown}
+use Rattle.journal.specs.Read.{readJournal}
+use Rattle.reference.specs.Call.{Entry, Enter, eventOf}
+use Rattle.reference.specs.Answers.{refusalOn, journalAfter, statusOf, answer}
+use Rattle.reference.specs.declared.Answer.{Answer}
+use Rattle.reference.proofs.Given.{held-year, accepted-answer, refused-answer, accepted-size, accepted-year, entry-admissible, entry-room}
+use Rattle.reference.proofs.Demand1.{demand-1}
+use Rattle.reference.proofs.Demand2.{demand-2}
+use Rattle.scan.specs.declared.Scanned.{Scanned}
+use Rattle.scan.specs.Scan.{progressOf, Tells}
+use Rattle.decisions.specs.declared.Decision.{Decision}
+use Rattle.decisions.specs.declared.Decision.the-variants.{Add, Refuse}
+use Rattle.decisions.specs.Decisions.{decisionOn}
+use Rattle.decisions.proofs.Told.{told-consistent}
+use Rattle.calls.proofs.Kept.{Promised, promised}
+use Rattle.calls.specs.Entering.{CanAdd, Enterable, answerTo, journalWith}
+
+module _ (entry : Entry) (journal : List ℕ) (scanned : Scanned) (t : Tells scanned (readJournal journal)) where
+  abbrev number : ℕ
+  number = refusalOn (Enter entry) journal
+
+  abbrev event : Event
+  event = eventOf (progressOf (readJournal journal) .setup) entry
+
+  -- an entry is accepted, on a year, or refused
+  by-decision : (P : Decision → Type 0) → ((s : Setup) (es : List Event) → readJournal journal ≡ Year s es → number ≡ 0 → P (Add event))
+      → ((number ≡ 0 → ⊥) → P (Refuse number)) → P (decisionOn entry journal)
+  by-decision P f g = by-test P (eqb number 0) (Add event) (Refuse number) (λ e. accepted (eqb-true number 0 e)) (λ e. g (eqb-false number 0 e))
+    where
+      accepted : number ≡ 0 → P (Add event)
+      accepted h = let year = held-year (readJournal journal) (accepted-year (Enter entry) journal h refl) in f (year .0) (year .1) (year .2) h
+
+  module _ (s : Setup) (es : List Event) (e : readJournal journal ≡ Year s es) where
+    year-is : shown (scanned .progress) ≡ replay s es
+    year-is = t .year ∙ ap progressOf e
+
+    event-is : event ≡ eventOf s entry
+    event-is = rw (e, replay-setup s es)
+
+    can-add : number ≡ 0 → CanAdd journal (scanned .progress) event
+    can-add h =
+        record {
+          size = accepted-size (Enter entry) journal h;
+          room = entry-room entry journal s es e h;
+          consistent = told-consistent scanned (readJournal journal) t (accepted-year (Enter entry) journal h refl);
+          admitted = rw (year-is, event-is) (entry-admissible entry journal s es e h);
+        }
+
+    added-answer : number ≡ 0 → answerTo (Add event) (shown (scanned .progress)) ≡ answer (Enter entry) journal
+    added-answer h = rw (accepted-answer (Enter entry) journal h, demand-2 .entered entry journal s es e h, year-is, event-is)
+
+    added-journal : number ≡ 0 → journalWith (Add event) journal ≡ journalAfter (Enter entry) journal
+    added-journal h = rw (event-is) (sym (demand-1 .entryWritten entry journal s es e h))
+
+  pub enterable : (d : Decision) → d ≡ decisionOn entry journal → Enterable journal (scanned .progress) d
+  enterable d e = rw e (by-decision (λ d. Enterable journal (scanned .progress) d) can-add (λ _. tt))
+
+  entered-answer : answerTo (decisionOn entry journal) (shown (scanned .progress)) ≡ answer (Enter entry) journal
+  entered-answer =
+      by-decision (λ d. answerTo d (shown (scanned .progress)) ≡ answer (Enter entry) journal) added-answer (λ f. sym (refused-answer (Enter entry) journal f))
+
+  entered-journal : journalWith (decisionOn entry journal) journal ≡ journalAfter (Enter entry) journal
+  entered-journal =
+      by-decision (λ d. journalWith d journal ≡ journalAfter (Enter entry) journal) added-journal (λ f. sym (demand-1 .refusedJournal (Enter entry) journal f))
+
+  -- what a call that enters promises
+  pub entered : (d : Decision) → d ≡ decisionOn entry journal → (r : Answer) (left : List ℕ) → r ≡ answerTo d (shown (scanned .progress)) → left ≡ journalWith d journal
+      → Promised (Enter entry) journal r left
+  entered d e r left a j = promised (Enter entry) journal r left (rw e at a ∙ entered-answer) (rw e at j ∙ entered-journal)

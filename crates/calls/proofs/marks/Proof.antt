@@ -1,0 +1,37 @@
+-- `marks` meets its contract. Assumes nothing.
+use mathlib.Core.Path.{_≡_}
+use lib.ListN.{take}
+use Rattle.reference.specs.declared.Written.{Written}
+use Rattle.reference.specs.Answers.{marksPart}
+use mathlib.Core.Path.{refl, sym, ap, _∙_}
+use lib.ListN.{length}
+use Rattle.reference.proofs.Demand2.{demand-2}
+use borrow.Author.Needs.{needs}
+use Rattle.calls.proofs.marks.Statement.{statement}
+use Rattle.calls.proofs.marks.Tie as tie
+
+write-marks-requires : tie.Need-write-marks-requires
+write-marks-requires c κs = search needs
+
+-- the part is the front of the output
+front : (c : tie.After-out2)
+    → let w = c .before .before .before .write-marks in
+    let a = c .before .before .before .before .before .before .before .args in
+    take (w .result .length) (w .last .1 .0) ≡ marksPart (a .journal .now) (a .out .now)
+front c =
+    let w = c .before .before .before .write-marks in
+    let a = c .before .before .before .before .before .before .before .args in
+    rw (w .ensures .0, w .ensures .1) (demand-2 .handedBack (a .journal .now) (a .out .now))
+
+slice-aggregate-result : tie.Need-slice-aggregate-result
+slice-aggregate-result c =
+    let w = c .before .before .before .write-marks in
+    ap (λ (x : Written). x .length) (w .ensures .0) ∙ ap length (sym (front c))
+
+returns : tie.Need-returns
+returns c =
+    let w = c .before .before .before .write-marks in
+    (front c, (refl, ap (λ (x : Written). x .refusal) (w .ensures .0)))
+
+pub marks-spec : {M : Type 1} → statement M
+marks-spec = tie.close (tie.spec write-marks-requires slice-aggregate-result returns)
