@@ -1,0 +1,191 @@
+// The calls. A journal is an array of 560 bytes, of which the calls are lent the first ones.
+ghost use mathlib.Core.Path.{_≡_};
+ghost use Prim.Native.Nat.{_≤_};
+ghost use lib.ListN.{length};
+use crate::printing::answer;
+use crate::printing::end;
+use crate::printing::next;
+use crate::printing::number;
+use crate::printing::quoted;
+use calls::amend;
+use calls::begin_period;
+use calls::declare;
+use calls::enter_engine;
+use calls::marks;
+use calls::read_status;
+use calls::set_up;
+use calls::write_marks;
+use reference::Answer;
+use rounding::Factor;
+use year::Factors;
+use year::Pair;
+use year::Setup;
+
+fn at_most(n: u32, most: u32) -> usize
+    ensures { λ r. ⌜ r ≤ most ⌝ }
+{
+    if most < n {
+        return most as usize;
+    }
+    n as usize
+}
+
+fn digest(bytes: &[u8]) -> u64 {
+    let mut d: u64 = 1;
+    let mut i: usize = 0;
+    while i < bytes.len() {
+        d = digested(d, bytes[i]);
+        i += 1;
+    }
+    d
+}
+
+fn digested(d: u64, b: u8) -> u64 {
+    (d % 4294967291 * 31 + b as u64) % 4294967291
+}
+
+fn setup_of(numbers: &[u32]) -> Setup
+    requires { ⌜ length (now numbers) ≡ 300 ⌝ }
+{
+    let standards = Pair {
+        hcnox: numbers[2],
+        co: numbers[3],
+    };
+    let hcnox = Factor {
+        kind: numbers[4],
+        value: numbers[5],
+    };
+    let co = Factor {
+        kind: numbers[6],
+        value: numbers[7],
+    };
+    Setup {
+        volume: numbers[0],
+        days: numbers[1],
+        standards,
+        factors: Factors { hcnox, co },
+    }
+}
+
+// The engine's number, two counts of readings, at most eight each, and the readings.
+fn engine(journal: &mut [u8], numbers: &[u32]) -> Answer
+    requires { ⌜ length (now numbers) ≡ 300 ⌝ }
+{
+    let middle = 3 + at_most(numbers[1], 8);
+    let last = middle + at_most(numbers[2], 8);
+    enter_engine(
+        journal,
+        numbers[0],
+        &numbers[3..middle],
+        &numbers[middle..last],
+    )
+}
+
+fn answer_of(letter: u8, numbers: &[u32], journal: &mut [u8]) -> Answer
+    requires { ⌜ length (now numbers) ≡ 300 ⌝ }
+{
+    if letter == b'S' {
+        return set_up(journal, setup_of(numbers));
+    }
+    if letter == b'E' {
+        return engine(journal, numbers);
+    }
+    if letter == b'A' {
+        let standards = Pair {
+            hcnox: numbers[0],
+            co: numbers[1],
+        };
+        return amend(journal, standards);
+    }
+    if letter == b'P' {
+        return begin_period(journal);
+    }
+    if letter == b'X' {
+        return declare(journal);
+    }
+    read_status(journal)
+}
+
+fn call(letter: u8, numbers: &[u32], journal: &mut [u8], lent: usize)
+    requires { ⌜ (length (now numbers) ≡ 300) × (length (now journal) ≡ 560) × (lent ≤ 560) ⌝ }
+{
+    let a = answer_of(letter, numbers, &mut journal[..lent]);
+    answer(a);
+    next(digest(journal));
+    end();
+}
+
+// The first form: the refusal, how many bytes were written, and all bytes of the array whose front was lent.
+fn written(journal: &[u8], out: &mut [u8], size: usize)
+    requires { ⌜ (length (now out) ≡ 100) × (size ≤ 100) ⌝ }
+{
+    let w = write_marks(journal, &mut out[..size]);
+    number(w.refusal as u64);
+    next(w.length as u64);
+    quoted(out);
+}
+
+fn handed_back(journal: &[u8], out: &mut [u8]) {
+    let mut refusal: u8 = 255;
+    let part = marks(journal, out, &mut refusal);
+    next(refusal as u64);
+    quoted(part);
+}
+
+// The second form: the refusal, the part handed back, and a digest of the array.
+fn handed(journal: &[u8], out: &mut [u8], size: usize)
+    requires { ⌜ (length (now out) ≡ 100) × (size ≤ 100) ⌝ }
+{
+    handed_back(journal, &mut out[..size]);
+    next(digest(out));
+}
+
+fn strip(journal: &[u8], lent: usize, size: usize)
+    requires { ⌜ (length (now journal) ≡ 560) × (lent ≤ 560) × (size ≤ 100) ⌝ }
+{
+    let mut first = [46u8; 100];
+    written(&journal[..lent], &mut first, size);
+    let mut second = [46u8; 100];
+    handed(&journal[..lent], &mut second, size);
+    next(digest(journal));
+    end();
+}
+
+fn clear(journal: &mut [u8]) {
+    let mut i: usize = 0;
+    while i < journal.len() {
+        journal[i] = 0;
+        i += 1;
+    }
+}
+
+fn change(journal: &mut [u8], place: u32, value: u32) {
+    let at = place as usize;
+    if at < journal.len() {
+        journal[at] = (value % 256) as u8;
+    }
+}
+
+// The line of a letter and its numbers; and how many bytes the calls after it are lent.
+pub fn obey(letter: u8, numbers: &[u32], journal: &mut [u8], lent: usize) -> usize
+    requires { ⌜ (length (now numbers) ≡ 300) × (length (now journal) ≡ 560) × (lent ≤ 560) ⌝ }
+    ensures { λ r. ⌜ r ≤ 560 ⌝ }
+{
+    if letter == b'B' {
+        return at_most(numbers[0], 560);
+    }
+    if letter == b'Z' {
+        clear(journal);
+        return lent;
+    }
+    if letter == b'W' {
+        change(journal, numbers[0], numbers[1]);
+        return lent;
+    }
+    if letter == b'L' {
+        strip(journal, lent, at_most(numbers[0], 100));
+        return lent;
+    }
+    call(letter, numbers, journal, lent);
+    lent
+}

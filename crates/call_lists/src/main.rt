@@ -1,0 +1,50 @@
+// A test program: lists of public calls from standard input, one to a line, and what each call answers, with a digest of the journal after it. Input and expected
+// output are made by tools/call_lists.py, which works from document 01 alone and says how the lines are written.
+ghost use mathlib.Core.Path.{_≡_};
+ghost use Prim.Native.Nat.{_≤_, _<_};
+ghost use lib.ListN.{length};
+use crate::calling::obey;
+use crate::input::read_line;
+use crate::input::read_numbers;
+use crate::printing::title;
+
+mod calling;
+mod input;
+mod printing;
+
+// A line that is no title: its letter, and the numbers from its third byte on.
+fn obey_line(line: &[u8], journal: &mut [u8], lent: usize) -> usize
+    requires { ⌜ (0 < length (now line)) × (length (now line) ≤ 256) × (length (now journal) ≡ 560) × (lent ≤ 560) ⌝ }
+    ensures { λ r. ⌜ r ≤ 560 ⌝ }
+{
+    let mut numbers = [0u32; 300];
+    read_numbers(line, 2, &mut numbers);
+    obey(line[0], &numbers, journal, lent)
+}
+
+// The next line of the input; and how many bytes of the journal the calls after it are lent.
+fn next_line(line: &mut [u8], journal: &mut [u8], lent: usize) -> usize
+    requires { ⌜ (length (now line) ≡ 256) × (length (now journal) ≡ 560) × (lent ≤ 560) ⌝ }
+    ensures { λ r. ⌜ r ≤ 560 ⌝ }
+{
+    let n = read_line(line);
+    if n == 0 {
+        return lent;
+    }
+    if line[0] == b'#' {
+        title(&line[..n]);
+        return lent;
+    }
+    obey_line(&line[..n], journal, lent)
+}
+
+fn main() {
+    let mut line = [0u8; 256];
+    let mut journal = [0u8; 560];
+    let mut lent: usize = 544;
+    let mut i: u32 = 0;
+    while i < 20000 {
+        lent = next_line(&mut line, &mut journal, lent);
+        i += 1;
+    }
+}
