@@ -2,11 +2,11 @@
 ghost use mathlib.Core.Path.{_≡_};
 ghost use Prim.Native.Nat.{_≤_};
 ghost use lib.ListN.{length};
-use crate::printing::answer;
-use crate::printing::end;
-use crate::printing::next;
-use crate::printing::number;
-use crate::printing::quoted;
+use crate::lines::answer;
+use crate::lines::end;
+use crate::lines::next;
+use crate::lines::number;
+use crate::lines::quoted;
 use calls::amend;
 use calls::begin_period;
 use calls::declare;

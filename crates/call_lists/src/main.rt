@@ -6,11 +6,11 @@ ghost use lib.ListN.{length};
 use crate::calling::obey;
 use crate::input::read_line;
 use crate::input::read_numbers;
-use crate::printing::title;
+use crate::lines::title;
 
 mod calling;
 mod input;
-mod printing;
+mod lines;
 
 // A line that is no title: its letter, and the numbers from its third byte on.
 fn obey_line(line: &[u8], journal: &mut [u8], lent: usize) -> usize
