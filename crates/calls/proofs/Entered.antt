@@ -1,8 +1,7 @@
 -- What is done with the decision on an entry is what the definitions say of the entry on the journal, and can be done.
 -- Assumes nothing.
 use mathlib.Core.Path.{_≡_, refl, sym, ap, _∙_}
-use mathlib.Core.Bool.{true}
-use mathlib.Core.List.{List, _∷_}
+use mathlib.Core.List.{List}
 use Prim.Native.Nat.{ℕ}
 use lib.Dec.{eqb}
 use borrow.Author.Tests.{eqb-true, eqb-false}
@@ -15,7 +14,7 @@ use Rattle.year.proofs.Replayed.{replay-setup}
 use Rattle.progress.specs.State.{shown}
 use Rattle.journal.specs.Read.{readJournal}
 use Rattle.reference.specs.Call.{Entry, Enter, eventOf}
-use Rattle.reference.specs.Answers.{refusalOn, journalAfter, statusOf, answer}
+use Rattle.reference.specs.Answers.{refusalOn, journalAfter, answer}
 use Rattle.reference.specs.declared.Answer.{Answer}
 use Rattle.reference.proofs.Given.{held-year, accepted-answer, refused-answer, accepted-size, accepted-year, entry-admissible, entry-room}
 use Rattle.reference.proofs.Demand1.{demand-1}
@@ -26,8 +25,8 @@ use Rattle.decisions.specs.declared.Decision.{Decision}
 use Rattle.decisions.specs.declared.Decision.the-variants.{Add, Refuse}
 use Rattle.decisions.specs.Decisions.{decisionOn}
 use Rattle.decisions.proofs.Told.{told-consistent}
-use Rattle.calls.proofs.Kept.{Promised, promised}
 use Rattle.calls.specs.Entering.{CanAdd, Enterable, answerTo, journalWith}
+use Rattle.calls.proofs.Kept.{Promised, promised}
 
 module _ (entry : Entry) (journal : List ℕ) (scanned : Scanned) (t : Tells scanned (readJournal journal)) where
   abbrev number : ℕ

@@ -4,15 +4,13 @@ use mathlib.Core.Path.{_≡_, refl, sym, ap, _∙_}
 use mathlib.Core.Bool.{true, false, true≢false}
 use mathlib.Core.List.{List, [], map}
 use Prim.Native.Nat.{ℕ, _*_, _≤_}
-use native.Mathlib.Omega.{arith}
 use lib.ListN.{length}
 use Rattle.buffers.specs.Bytes.{put}
 use Rattle.cumsum.specs.Marks.{markByte}
 use Rattle.year.specs.declared.Setup.{Setup}
-use Rattle.year.specs.declared.Event.{Event}
 use Rattle.year.specs.declared.Status.{Status}
 use Rattle.year.specs.Setup.{setupInRange}
-use Rattle.year.specs.Replay.{Progress, start, replay}
+use Rattle.year.specs.Replay.{Progress, start}
 use Rattle.year.specs.Status.{status, printedMarks}
 use Rattle.year.specs.Model.{Model, NoSetup, Year, noSetup}
 use Rattle.progress.specs.State.{shown, Consistent}
@@ -31,7 +29,7 @@ use Rattle.reference.specs.declared.Answer.the-variants.{Accepted, Refused}
 use Rattle.reference.specs.Call.{Call, SetUp, ReadStatus, WriteMarks}
 use Rattle.reference.specs.Answers.{refusalOn, journalAfter, statusOf, answer, answerOf, told, markBytes, outAfter, marksPart, marksTold}
 use Rattle.reference.proofs.Validity.{setup-valid}
-use Rattle.reference.proofs.Given.{held-year, accepted-gives, accepted-answer, refused-answer, answer-told, accepted-size, accepted-year, accepted-refusal}
+use Rattle.reference.proofs.Given.{accepted-gives, accepted-answer, refused-answer, answer-told, accepted-size, accepted-year, accepted-refusal}
 use Rattle.reference.proofs.Demand1.{demand-1, out-fits, mark-bytes}
 use Rattle.reference.proofs.Demand2.{demand-2}
 
@@ -113,8 +111,8 @@ module _ (journal : List ℕ) (scanned : Scanned) (t : Tells scanned (readJourna
       pub marks-room : 2 * scanned .progress .engines .count ≤ length out
       marks-room = rw (engines-of (readJournal journal) held (t .year)) at (out-fits journal (length out) h)
 
-      pub marks-range : MarksInRange (scanned .progress .engines) 1024
-      marks-range = record { histories = consistent .inRange .histories; fine = omega arith }
+      pub marks-range : (k : ℕ) → k ≤ 8192 → MarksInRange (scanned .progress .engines) k
+      marks-range k fine = record { histories = consistent .inRange .histories; fine = fine }
 
       part : marksPart journal out ≡ markBytes (readJournal journal)
       unfolding marksPart

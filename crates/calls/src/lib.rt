@@ -34,9 +34,9 @@ pub fn set_up(journal: &mut [u8], s: Setup) -> Answer
     ensures { λ r. ⌜ answerOf r ≡ told (SetUp s) (now (journal .entry)) ⌝ }
     ensures { λ _. ⌜ now (journal .exit) ≡ journalAfter (SetUp s) (now (journal .entry)) ⌝ }
 {
-    let refusal = setup_refusal(journal, s);
-    if refusal != 0 {
-        return Answer::Refused(refusal);
+    let refused = setup_refusal(journal, s);
+    if refused != 0 {
+        return Answer::Refused(refused);
     }
     write_setup(journal, s);
     Answer::Accepted(status_of(start(s)))
@@ -107,9 +107,9 @@ pub fn read_status(journal: &[u8]) -> Answer
     ensures { λ r. ⌜ answerOf r ≡ told ReadStatus (now (journal .entry)) ⌝ }
 {
     let scanned = scan_journal(journal);
-    let refusal = status_refusal(journal, scanned);
-    if refusal != 0 {
-        return Answer::Refused(refusal);
+    let number = status_refusal(journal, scanned);
+    if number != 0 {
+        return Answer::Refused(number);
     }
     Answer::Accepted(status_of(scanned.progress))
 }

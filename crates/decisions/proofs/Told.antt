@@ -2,7 +2,6 @@
 -- Assumes nothing.
 use mathlib.Core.Path.{_≡_, sym, ap, _∙_}
 use mathlib.Core.Bool.{Bool, true, false, not, false≢true}
-use Rattle.buffers.proofs.Tests.{not-false}
 use Rattle.year.specs.Replay.{Progress}
 use Rattle.year.specs.Model.{Model, NoSetup, Year, noSetup, ofYear}
 use Rattle.progress.specs.State.{shown, Consistent}

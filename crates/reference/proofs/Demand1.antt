@@ -9,7 +9,7 @@ use native.Mathlib.Nat.{eq-or-lt-of-le}
 use native.Mathlib.Decide.{decLt}
 use native.Mathlib.Omega.{arith}
 use lib.Dec.{eqb}
-use lib.ListN.{length, getD, length-append, length-map}
+use lib.ListN.{length, getD, length-map}
 use borrow.Author.Tests.{eqb-true, ltb-false}
 use Rattle.buffers.specs.Bytes.{put, Outside}
 use Rattle.buffers.specs.Rows.{applies, FirstApplies, NoneApplies}
@@ -19,7 +19,7 @@ use Rattle.buffers.proofs.Tests.{by-test}
 use Rattle.cumsum.specs.Marks.{markByte}
 use Rattle.year.specs.declared.Setup.{Setup}
 use Rattle.year.specs.declared.Event.{Event}
-use Rattle.year.specs.Replay.{Tested, replay}
+use Rattle.year.specs.Replay.{replay}
 use Rattle.year.specs.Status.{printedMarks}
 use Rattle.year.specs.Model.{Model, NoSetup, Year}
 use Rattle.year.proofs.Kept.{printed-length}
@@ -29,7 +29,7 @@ use Rattle.journal.proofs.Encoded.{length-slot}
 use Rattle.journal.proofs.OneJournal.{demand}
 use Rattle.reference.specs.Call.{Entry, Call, SetUp, Enter, ReadStatus, WriteMarks, eventOf}
 use Rattle.reference.specs.Refusals.{refusals, refusal}
-use Rattle.reference.specs.Answers.{refusalsOn, refusalOn, ifAccepted, withEntry, written, journalAfter, noStatus, statusOf, answer, Told, answerOf, told, markBytes, outAfter, marksPart}
+use Rattle.reference.specs.Answers.{refusalsOn, refusalOn, withEntry, written, journalAfter, noStatus, statusOf, answer, Told, answerOf, told, markBytes, outAfter, marksPart}
 use Rattle.reference.specs.Demand1.{Demand1}
 use Rattle.reference.proofs.Given.{accepted-gives, refused-gives, refused-answer, answer-told, accepted-size, accepted-refusal, entry-room}
 use Rattle.reference.proofs.Validity.{refusals-numbered, setup-valid, not-refused}

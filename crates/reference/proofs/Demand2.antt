@@ -14,13 +14,11 @@ use Rattle.statistics.specs.Spread.{Test, total, deviationOf}
 use Rattle.statistics.specs.SampleSize.{sampleSizeOf}
 use Rattle.cumsum.specs.Intervals.{cumsum, actionLimit}
 use Rattle.cumsum.specs.Marks.{mark}
-use Rattle.year.specs.declared.Setup.{Setup}
-use Rattle.year.specs.declared.Event.{Event}
 use Rattle.year.specs.declared.Figures.{Figures}
 use Rattle.year.specs.Setup.{Pollutant, Hcnox, Co}
 use Rattle.year.specs.Replay.{Progress, replay, history}
 use Rattle.year.specs.Status.{blank, figures, status}
-use Rattle.year.specs.Model.{Model, NoSetup, Year, noSetup}
+use Rattle.year.specs.Model.{noSetup}
 use Rattle.year.proofs.Replayed.{history-length}
 use Rattle.journal.specs.Read.{readJournal}
 use Rattle.journal.proofs.OneJournal.{demand}

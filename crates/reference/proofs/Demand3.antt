@@ -4,7 +4,6 @@ use mathlib.Core.Path.{_≡_, ap, _∙_}
 use mathlib.Core.Bool.{false}
 use mathlib.Core.List.{List, [], reverse}
 use Prim.Native.Nat.{ℕ, _*_, _≤_}
-use native.Mathlib.Omega.{arith}
 use lib.ListN.{length}
 use Rattle.year.specs.declared.Setup.{Setup}
 use Rattle.year.specs.declared.Event.{Event}
@@ -13,8 +12,8 @@ use Rattle.year.specs.Model.{NoSetup, Year, noSetup}
 use Rattle.year.proofs.Finer.{finer-work}
 use Rattle.journal.specs.Read.{readJournal}
 use Rattle.reference.specs.Call.{Call, ReadStatus, WriteMarks}
-use Rattle.reference.specs.Answers.{refusalOn, journalAfter, statusOf, answer, answerOf, markBytes, marksPart}
-use Rattle.reference.specs.Model.{modelOf, journalOf, setupAccepted}
+use Rattle.reference.specs.Answers.{refusalOn, answer, markBytes, marksPart}
+use Rattle.reference.specs.Model.{modelOf, journalOf}
 use Rattle.reference.specs.Demand2.{Shows}
 use Rattle.reference.specs.Demand3.{statusOn, Calculated, FinerJournal, BeforeSetup, AfterCalls, Demand3}
 use Rattle.reference.proofs.Stored.{stored-calls}

@@ -1,8 +1,8 @@
 -- `amend` meets its contract. Assumes nothing.
 use Rattle.reference.specs.Call.{Amend}
 use Rattle.scan.proofs.Whole.{tells}
-use Rattle.calls.proofs.Entered.{enterable, entered}
 use borrow.Author.Needs.{needs}
+use Rattle.calls.proofs.Entered.{enterable, entered}
 use Rattle.calls.proofs.amend.Statement.{statement}
 use Rattle.calls.proofs.amend.Tie as tie
 

@@ -1,8 +1,8 @@
 -- `begin_period` meets its contract. Assumes nothing.
 use Rattle.reference.specs.Call.{BeginPeriod}
 use Rattle.scan.proofs.Whole.{tells}
-use Rattle.calls.proofs.Entered.{enterable, entered}
 use borrow.Author.Needs.{needs}
+use Rattle.calls.proofs.Entered.{enterable, entered}
 use Rattle.calls.proofs.begin_period.Statement.{statement}
 use Rattle.calls.proofs.begin_period.Tie as tie
 

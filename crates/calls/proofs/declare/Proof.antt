@@ -1,8 +1,8 @@
 -- `declare` meets its contract. Assumes nothing.
 use Rattle.reference.specs.Call.{Declare}
 use Rattle.scan.proofs.Whole.{tells}
-use Rattle.calls.proofs.Entered.{enterable, entered}
 use borrow.Author.Needs.{needs}
+use Rattle.calls.proofs.Entered.{enterable, entered}
 use Rattle.calls.proofs.declare.Statement.{statement}
 use Rattle.calls.proofs.declare.Tie as tie
 

@@ -1,7 +1,7 @@
 -- `enter` meets its contract. Assumes nothing.
+use mathlib.Core.Path.{sym, ap, subst, _∙_}
 use Rattle.year.specs.Status.{status}
 use Rattle.reference.specs.declared.Answer.the-variants.{Accepted}
-use mathlib.Core.Path.{sym, ap, subst, _∙_}
 use Rattle.encoder.proofs.Fits.{event-fits}
 use Rattle.progress.specs.State.{shown}
 use Rattle.calls.specs.Entering.{CanAdd, Enterable, answerTo}

@@ -1,8 +1,8 @@
 -- `enter_engine` meets its contract. Assumes nothing.
 use Rattle.reference.specs.Call.{EnterEngine}
 use Rattle.scan.proofs.Whole.{tells}
-use Rattle.calls.proofs.Entered.{enterable, entered}
 use borrow.Author.Needs.{needs}
+use Rattle.calls.proofs.Entered.{enterable, entered}
 use Rattle.calls.proofs.enter_engine.Statement.{statement}
 use Rattle.calls.proofs.enter_engine.Tie as tie
 

@@ -1,10 +1,10 @@
 -- `marks` meets its contract. Assumes nothing.
-use mathlib.Core.Path.{_≡_}
-use lib.ListN.{take}
+use mathlib.Core.Path.{_≡_, refl, sym, ap}
+use native.Mathlib.Omega.{arith}
+use lib.ListN.{take, length-take, length}
+use lib.Seq.{length-take-le}
 use Rattle.reference.specs.declared.Written.{Written}
 use Rattle.reference.specs.Answers.{marksPart}
-use mathlib.Core.Path.{refl, sym, ap, _∙_}
-use lib.ListN.{length}
 use Rattle.reference.proofs.Demand2.{demand-2}
 use borrow.Author.Needs.{needs}
 use Rattle.calls.proofs.marks.Statement.{statement}
@@ -26,7 +26,8 @@ front c =
 slice-aggregate-result : tie.Need-slice-aggregate-result
 slice-aggregate-result c =
     let w = c .before .before .before .write-marks in
-    ap (λ (x : Written). x .length) (w .ensures .0) ∙ ap length (sym (front c))
+    let told = ap (λ (x : Written). x .length) (w .ensures .0) in
+    sym (length-take-le _ _ (omega (arith, told, ap length (front c), length-take (w .result .length) (w .last .1 .0))))
 
 returns : tie.Need-returns
 returns c =

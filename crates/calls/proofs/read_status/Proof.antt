@@ -3,8 +3,8 @@ use mathlib.Core.Path.{_≡_, sym, _∙_}
 use Rattle.reference.specs.Call.{ReadStatus}
 use Rattle.reference.specs.Answers.{refusalOn}
 use Rattle.scan.proofs.Whole.{tells}
-use Rattle.calls.proofs.Kept.{refused, status-ready, status-done}
 use borrow.Author.Needs.{needs}
+use Rattle.calls.proofs.Kept.{refused, status-ready, status-done}
 use Rattle.calls.proofs.read_status.Statement.{statement}
 use Rattle.calls.proofs.read_status.Tie as tie
 

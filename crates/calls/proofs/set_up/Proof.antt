@@ -1,10 +1,10 @@
 -- `set_up` meets its contract. Assumes nothing.
-use Rattle.progress.specs.State.{shown}
 use mathlib.Core.Path.{_≡_, sym, _∙_}
+use Rattle.progress.specs.State.{shown}
 use Rattle.reference.specs.Call.{SetUp}
 use Rattle.reference.specs.Answers.{refusalOn}
-use Rattle.calls.proofs.Kept.{refused, setup-ready, setup-writable, setup-done}
 use borrow.Author.Needs.{needs}
+use Rattle.calls.proofs.Kept.{refused, setup-ready, setup-writable, setup-done}
 use Rattle.calls.proofs.set_up.Statement.{statement}
 use Rattle.calls.proofs.set_up.Tie as tie
 

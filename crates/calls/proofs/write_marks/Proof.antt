@@ -5,8 +5,8 @@ use lib.ListN.{length}
 use Rattle.reference.specs.Call.{WriteMarks}
 use Rattle.reference.specs.Answers.{refusalOn}
 use Rattle.scan.proofs.Whole.{tells}
-use Rattle.calls.proofs.Kept.{marks-refused, marks-few, marks-room, marks-range, marks-done}
 use borrow.Author.Needs.{needs}
+use Rattle.calls.proofs.Kept.{marks-refused, marks-few, marks-room, marks-range, marks-done}
 use Rattle.calls.proofs.write_marks.Statement.{statement}
 use Rattle.calls.proofs.write_marks.Tie as tie
 
@@ -32,7 +32,7 @@ print-marks-requires c κs =
     let k = e .before .before .scan-journal in
     let a = e .before .before .before .before .before .args in
     let t = tells (k .result) _ (k .ensures) in
-    (marks-range (a .journal .now) (k .result) t (a .out .now) (none e), marks-room (a .journal .now) (k .result) t (a .out .now) (none e))
+    (marks-range (a .journal .now) (k .result) t (a .out .now) (none e) _ (omega arith), marks-room (a .journal .now) (k .result) t (a .out .now) (none e))
 
 mul-t6 : tie.Need-mul-t6
 mul-t6 c =

@@ -4,8 +4,8 @@ use native.Mathlib.Numerals.{add-one}
 use native.Mathlib.Omega.{arith}
 use lib.ListN.{length-set}
 use lib.Seq.{sets-eq}
-use borrow.Author.Needs.{needs}
 use Rattle.buffers.specs.Bytes.{put}
+use borrow.Author.Needs.{needs}
 use Rattle.printing.proofs.print_pair.Statement.{statement}
 use Rattle.printing.proofs.print_pair.Tie as tie
 

@@ -4,9 +4,6 @@ use mathlib.Core.Bool.{false, not, _||_}
 use Rattle.year.specs.Replay.{isTested}
 use Rattle.year.specs.Admissible.{numberInRange}
 use Rattle.engines.specs.Engines.{tested}
-use mathlib.Core.Path.{sym, _∙_}
-use borrow.Author.Tests.{not-true}
-use Rattle.buffers.proofs.Tests.{not-false}
 use Rattle.progress.proofs.Carried.{count-le}
 use borrow.Author.Needs.{needs}
 use Rattle.decisions.proofs.engine.asked_refusal.Statement.{statement}

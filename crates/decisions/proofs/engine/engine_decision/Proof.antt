@@ -3,13 +3,13 @@ use mathlib.Core.Path.{_≡_, sym, ap, _∙_}
 use Prim.Native.Nat.{_≤_}
 use native.Mathlib.Omega.{arith}
 use lib.ListN.{length}
-use borrow.Author.Needs.{needs}
 use Rattle.buffers.specs.Rows.{first}
 use Rattle.progress.specs.State.{shown}
 use Rattle.progress.proofs.Carried.{counted}
 use Rattle.reference.specs.Call.{Readings}
 use Rattle.decisions.specs.declared.Decision.the-variants.{Refuse}
-use Rattle.decisions.specs.Decisions.{askedRows, workedRows}
+use Rattle.decisions.specs.Decisions.{askedRows}
+use borrow.Author.Needs.{needs}
 use Rattle.decisions.proofs.Parts.{asked-refused, asked-counts, worked-results, results-refused, results-added}
 use Rattle.decisions.proofs.engine.engine_decision.Statement.{statement}
 use Rattle.decisions.proofs.engine.engine_decision.Tie as tie
@@ -73,10 +73,10 @@ results c =
     worked-results (w .before .before .result-of .result) (w .before .result-of2 .result) (s .args .p .engines .count) (sym (w .worked-refusal .ensures) ∙ c .if2 .left)
 
 cast-t13 : tie.Need-cast-t13
-cast-t13 c = omega (arith, results c .0)
+cast-t13 c = omega (arith, results c .0, results c .1)
 
 cast-t14 : tie.Need-cast-t14
-cast-t14 c = omega (arith, results c .1)
+cast-t14 c = omega (arith, results c .0, results c .1)
 
 returns-3 : tie.Need-returns-3
 returns-3 c =

@@ -5,8 +5,8 @@ use borrow.Author.Tests.{eq-eqb, ne-eqb}
 use Rattle.year.specs.Admissible.{closed, eventsFull}
 use Rattle.year.specs.Model.{noSetup}
 use Rattle.journal.specs.Read.{readJournal}
-use Rattle.decisions.proofs.Told.{told-none, told-consistent, told-test}
 use borrow.Author.Needs.{needs}
+use Rattle.decisions.proofs.Told.{told-none, told-consistent, told-test}
 use Rattle.decisions.proofs.entries.common_refusal.Statement.{statement}
 use Rattle.decisions.proofs.entries.common_refusal.Tie as tie
 

@@ -1,11 +1,11 @@
 -- `entries::next_period` meets its contract. Assumes nothing.
 use mathlib.Core.Path.{_≡_, sym, ap, _∙_}
 use mathlib.Core.Bool.{false}
-use borrow.Author.Needs.{needs}
 use Rattle.buffers.specs.Rows.{first}
 use Rattle.reference.specs.Call.{BeginPeriod}
 use Rattle.decisions.specs.declared.Decision.the-variants.{Refuse}
 use Rattle.decisions.specs.Decisions.{commonRows}
+use borrow.Author.Needs.{needs}
 use Rattle.decisions.proofs.Parts.{common-refused, common-held, period-decided}
 use Rattle.decisions.proofs.Told.{told-consistent}
 use Rattle.decisions.proofs.entries.next_period.Statement.{statement}

@@ -4,9 +4,9 @@ use Prim.Native.Nat.{_-_, _≤_}
 use native.Mathlib.Omega.{arith}
 use lib.ListN.{length, drop}
 use borrow.Author.Tests.{not-true}
-use borrow.Author.Needs.{needs}
 use Rattle.buffers.proofs.Tests.{not-false}
 use Rattle.reference.specs.Refusals.{allInRange}
+use borrow.Author.Needs.{needs}
 use Rattle.decisions.proofs.Parts.{range-stop, range-go, range-end}
 use Rattle.decisions.proofs.readings.all_in_range.Statement.{statement}
 use Rattle.decisions.proofs.readings.all_in_range.Tie as tie

@@ -1,11 +1,11 @@
 -- `refusals::marks_refusal` meets its contract. Assumes nothing.
 use mathlib.Core.Path.{_≡_, sym, _∙_}
 use native.Mathlib.Omega.{arith}
-use borrow.Author.Needs.{needs}
 use Rattle.buffers.specs.Rows.{first}
 use Rattle.progress.specs.State.{Consistent}
 use Rattle.progress.proofs.Carried.{count-le, counted}
 use Rattle.reference.specs.Refusals.{refusals, refusal}
+use borrow.Author.Needs.{needs}
 use Rattle.decisions.proofs.Parts.{statusRows, status-held, marks-refused, marks-decided}
 use Rattle.decisions.proofs.Told.{told-consistent}
 use Rattle.decisions.proofs.refusals.marks_refusal.Statement.{statement}

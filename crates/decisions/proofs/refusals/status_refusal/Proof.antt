@@ -1,7 +1,7 @@
 -- `refusals::status_refusal` meets its contract. Assumes nothing.
 use Rattle.reference.specs.Refusals.{refusals, refusal}
-use Rattle.decisions.proofs.Told.{told-none}
 use borrow.Author.Needs.{needs}
+use Rattle.decisions.proofs.Told.{told-none}
 use Rattle.decisions.proofs.refusals.status_refusal.Statement.{statement}
 use Rattle.decisions.proofs.refusals.status_refusal.Tie as tie
 
