@@ -3,10 +3,8 @@ ghost use mathlib.Core.Path.{_≡_};
 ghost use Prim.Native.Nat.{_≤_};
 ghost use lib.ListN.{length};
 use crate::lines::answer;
-use crate::lines::end;
-use crate::lines::next;
-use crate::lines::number;
 use crate::lines::quoted;
+use buffers::parts::clear;
 use calls::amend;
 use calls::begin_period;
 use calls::declare;
@@ -17,6 +15,9 @@ use calls::set_up;
 use calls::write_marks;
 use reference::Answer;
 use rounding::Factor;
+use test_lines::lines::end;
+use test_lines::lines::next;
+use test_lines::lines::number;
 use year::Factors;
 use year::Pair;
 use year::Setup;
@@ -149,14 +150,6 @@ fn strip(journal: &[u8], lent: usize, size: usize)
     handed(&journal[..lent], &mut second, size);
     next(digest(journal));
     end();
-}
-
-fn clear(journal: &mut [u8]) {
-    let mut i: usize = 0;
-    while i < journal.len() {
-        journal[i] = 0;
-        i += 1;
-    }
 }
 
 fn change(journal: &mut [u8], place: u32, value: u32) {

@@ -5,20 +5,29 @@ ghost use Prim.Native.Nat.{_≤_, _<_};
 ghost use lib.ListN.{length};
 use crate::calling::obey;
 use crate::input::read_line;
-use crate::input::read_numbers;
 use crate::lines::title;
+use test_lines::numbers::read_numbers;
 
 mod calling;
 mod input;
 mod lines;
 
-// A line that is no title: its letter, and the numbers from its third byte on.
+// The numbers of a line, from its third byte on, over zeros.
+fn read_arguments(line: &[u8], numbers: &mut [u32])
+    requires { ⌜ (length (now line) ≤ 256) × (length (now numbers) ≡ 300) ⌝ }
+{
+    if 2 < line.len() {
+        read_numbers(&line[2..], numbers);
+    }
+}
+
+// A line that is no title: its letter and its numbers.
 fn obey_line(line: &[u8], journal: &mut [u8], lent: usize) -> usize
     requires { ⌜ (0 < length (now line)) × (length (now line) ≤ 256) × (length (now journal) ≡ 560) × (lent ≤ 560) ⌝ }
     ensures { λ r. ⌜ r ≤ 560 ⌝ }
 {
     let mut numbers = [0u32; 300];
-    read_numbers(line, 2, &mut numbers);
+    read_arguments(line, &mut numbers);
     obey(line[0], &numbers, journal, lent)
 }
 

@@ -1,8 +1,6 @@
 // A test program: the figures of document 01's printed run, of its starred cases and of years at the largest values. Its output is compared with the file
 // stdout, which was worked by another program from document 01 alone.
 mod cases;
-mod lines;
-mod numbers;
 mod work;
 
 fn main() {

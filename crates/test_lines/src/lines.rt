@@ -15,7 +15,7 @@ pub fn number(n: u64) {
     print_decimal(STDOUT_FILENO, n);
 }
 
-fn next(n: u64) {
+pub fn next(n: u64) {
     text(b" ");
     number(n);
 }

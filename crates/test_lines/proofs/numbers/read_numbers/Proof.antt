@@ -3,8 +3,8 @@ use mathlib.Core.Path.{_≡_}
 use Prim.Native.Nat.{_-_, _≤_, _<_}
 use native.Mathlib.Omega.{arith}
 use lib.ListN.{length, length-set}
-use Rattle.worked_years.proofs.numbers.read_numbers.Statement.{statement}
-use Rattle.worked_years.proofs.numbers.read_numbers.Tie as tie
+use Rattle.test_lines.proofs.numbers.read_numbers.Statement.{statement}
+use Rattle.test_lines.proofs.numbers.read_numbers.Tie as tie
 
 abbrev Inv-loop : tie.InvT-loop
 Inv-loop text out₀ place₀ i₀ out place i = (place ≤ i) × (i ≤ length text) × (length text < length out) × (length out < 1000) × (length out ≡ length out₀)

@@ -2,12 +2,12 @@
 ghost use Prim.Native.Nat.{_+_, _≤_, _<_};
 ghost use lib.ListN.{length};
 
-// A digit more, or the number as it is at a space.
+// A digit more, or the number as it is at a space. (No number of the inputs is above the largest u32; the remainder keeps the others in it.)
 fn with_byte(number: u32, b: u8) -> u32 {
     if b == 32 {
         return number;
     }
-    number % 100000 * 10 + (b % 16) as u32
+    ((number as u64 * 10 + (b % 16) as u64) % 4294967296) as u32
 }
 
 // Where the next byte's number stands: the next place after a space.

@@ -2,8 +2,8 @@
 use Prim.Native.Nat.{_-_, _≤_}
 use native.Mathlib.Omega.{arith}
 use lib.ListN.{length}
-use Rattle.worked_years.proofs.lines.all.Statement.{statement}
-use Rattle.worked_years.proofs.lines.all.Tie as tie
+use Rattle.test_lines.proofs.lines.all.Statement.{statement}
+use Rattle.test_lines.proofs.lines.all.Tie as tie
 
 abbrev Inv-loop : tie.InvT-loop
 Inv-loop numbers i₀ i = i ≤ length numbers
