@@ -134,6 +134,7 @@ demand-2 =
     record {
       setUp = λ s journal. accepted-reads (SetUp s) journal;
       entered = λ entry journal s es e h. accepted-reads (Enter entry) journal h ∙ rw e;
+      held = after-year;
       shown = λ call journal s es h e. rw (accepted-answer call journal h, e) (shows (replay s es));
       answered = answered;
       marks = λ journal out s es e h.

@@ -2,6 +2,7 @@
 -- for each setup and list.
 -- Assumes nothing.
 use mathlib.Core.Path.{_≡_}
+use mathlib.Core.Bool.{false}
 use mathlib.Core.List.{List, [], _∷_, map}
 use Prim.Native.Nat.{ℕ, _≤_, _<_}
 use lib.ListN.{length, take}
@@ -18,7 +19,7 @@ use Rattle.year.specs.Setup.{Pollutant, Hcnox, Co}
 use Rattle.year.specs.Replay.{Progress, replay, history}
 use Rattle.year.specs.Verdict.{verdict}
 use Rattle.year.specs.Status.{blank, printedMarks}
-use Rattle.year.specs.Model.{Year}
+use Rattle.year.specs.Model.{Year, noSetup}
 use Rattle.journal.specs.Read.{readJournal}
 use Rattle.journal.specs.OneJournal.{OneJournal}
 use Rattle.reference.specs.Call.{Entry, Call, SetUp, Enter, ReadStatus, WriteMarks, eventOf}
@@ -47,7 +48,8 @@ pub record Demand2 : Type 0 where
   pub setUp : (s : Setup) (journal : List ℕ) → refusalOn (SetUp s) journal ≡ 0 → readJournal (journalAfter (SetUp s) journal) ≡ Year s []
   pub entered : (entry : Entry) (journal : List ℕ) (s : Setup) (es : List Event) → readJournal journal ≡ Year s es → refusalOn (Enter entry) journal ≡ 0
       → readJournal (journalAfter (Enter entry) journal) ≡ Year s (eventOf s entry ∷ es)
-  -- what is answered: each figure of the year that the journal then holds, which is what status answers on that journal
+  -- what is answered: each figure of the year that the journal then holds (an accepted call leaves none without), which is what status answers on that journal
+  pub held : (call : Call) (journal : List ℕ) → refusalOn call journal ≡ 0 → noSetup (readJournal (journalAfter call journal)) ≡ false
   pub shown : (call : Call) (journal : List ℕ) (s : Setup) (es : List Event) → refusalOn call journal ≡ 0 → readJournal (journalAfter call journal) ≡ Year s es
       → Shows (answerOf (answer call journal) .status) (replay s es)
   pub answered : (call : Call) (journal : List ℕ) → refusalOn call journal ≡ 0 → answer call journal ≡ answer ReadStatus (journalAfter call journal)
