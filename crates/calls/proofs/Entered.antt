@@ -26,7 +26,7 @@ use Rattle.decisions.specs.declared.Decision.the-variants.{Add, Refuse}
 use Rattle.decisions.specs.Decisions.{decisionOn}
 use Rattle.decisions.proofs.Told.{told-consistent}
 use Rattle.calls.specs.Entering.{CanAdd, Enterable, answerTo, journalWith}
-use Rattle.calls.proofs.Kept.{Promised, promised}
+use Rattle.calls.proofs.Promises.{Promised, promised}
 
 module _ (entry : Entry) (journal : List ℕ) (scanned : Scanned) (t : Tells scanned (readJournal journal)) where
   abbrev number : ℕ

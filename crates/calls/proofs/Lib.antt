@@ -1,2 +1,2 @@
-pub mod Kept
+pub mod Promises
 pub mod Entered

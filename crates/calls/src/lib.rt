@@ -4,7 +4,7 @@ ghost use mathlib.Core.Path.{_≡_};
 ghost use lib.ListN.{length};
 ghost use denote.Ref.{ptr};
 ghost use Rattle.progress.specs.State.{shown};
-ghost use Rattle.reference.specs.Call.{EnterEngine, Amend, BeginPeriod, Declare, SetUp, Enter, ReadStatus, WriteMarks};
+ghost use Rattle.reference.specs.Call.{engineEntry, Amend, BeginPeriod, Declare, SetUp, Enter, ReadStatus, WriteMarks};
 ghost use Rattle.reference.specs.Answers.{refusalOn, journalAfter, answer, answerOf, told, outAfter, marksPart, marksTold};
 ghost use Rattle.calls.specs.Entering.{Enterable, answerTo, journalWith};
 use decisions::Decision;
@@ -59,9 +59,9 @@ fn enter(journal: &mut [u8], p: Progress, decision: Decision) -> Answer
 
 // An engine with its number and its readings for each pollutant.
 pub fn enter_engine(journal: &mut [u8], number: u32, hcnox: &[u32], co: &[u32]) -> Answer
-    ensures { λ r. ⌜ r ≡ answer (Enter (EnterEngine number (record { hcnox = now (hcnox .entry); co = now (co .entry) }))) (now (journal .entry)) ⌝ }
-    ensures { λ r. ⌜ answerOf r ≡ told (Enter (EnterEngine number (record { hcnox = now (hcnox .entry); co = now (co .entry) }))) (now (journal .entry)) ⌝ }
-    ensures { λ _. ⌜ now (journal .exit) ≡ journalAfter (Enter (EnterEngine number (record { hcnox = now (hcnox .entry); co = now (co .entry) }))) (now (journal .entry)) ⌝ }
+    ensures { λ r. ⌜ r ≡ answer (Enter (engineEntry number (now (hcnox .entry)) (now (co .entry)))) (now (journal .entry)) ⌝ }
+    ensures { λ r. ⌜ answerOf r ≡ told (Enter (engineEntry number (now (hcnox .entry)) (now (co .entry)))) (now (journal .entry)) ⌝ }
+    ensures { λ _. ⌜ now (journal .exit) ≡ journalAfter (Enter (engineEntry number (now (hcnox .entry)) (now (co .entry)))) (now (journal .entry)) ⌝ }
 {
     let scanned = scan_journal(journal);
     let decision = engine(journal, scanned, number, hcnox, co);

@@ -1,2 +1,4 @@
 pub mod Told
+pub mod Ranging
 pub mod Parts
+pub mod OneEngine

@@ -1,47 +1,31 @@
--- The table of refusals in parts, as the code asks them; readings one after another.
+-- The table of refusals in parts, as the code asks them: the common rows of an entry, those of status, and the rows after them.
 -- Assumes nothing.
-use mathlib.Core.Path.{_≡_, sym, ap, _∙_}
-use mathlib.Core.Bool.{Bool, true, false, cond, not, _&&_, _||_, Bool·not-not, and-eq-true-iff}
+use mathlib.Core.Path.{_≡_, sym, ap}
+use mathlib.Core.Bool.{Bool, false, cond, not, _||_, Bool·not-not}
 use mathlib.Core.List.{List, [], _∷_}
-use Prim.Native.Nat.{ℕ, _+_, _*_, _≤_, _<_}
-use native.Mathlib.Numerals.{add-one}
+use Prim.Native.Nat.{ℕ, _*_}
 use native.Mathlib.Omega.{arith}
-use lib.Dec.{eqb, leb, ltb}
-use lib.ListN.{length, getD, drop, drop-of-length-le}
-use lib.Seq.{drop-cons}
-use borrow.Author.Tests.{ne-eqb, eqb-true, leb-true}
+use lib.Dec.{eqb, ltb}
+use lib.ListN.{length, drop}
+use borrow.Author.Tests.{ne-eqb}
 use Rattle.buffers.specs.Rows.{Row, first, Numbered}
 use Rattle.buffers.proofs.Rows.{first-none, none-applies, first-kept, first-passed}
-use Rattle.buffers.proofs.Tests.{not-false}
-use Rattle.rounding.specs.Result.{countInRange, readingInRange, resultInRange}
 use Rattle.year.specs.declared.Event.{Event}
-use Rattle.year.specs.declared.Event.the-variants.{Engine, NextPeriod}
+use Rattle.year.specs.declared.Event.the-variants.{NextPeriod}
 use Rattle.year.specs.Setup.{standardsInRange}
-use Rattle.year.specs.Replay.{Progress, short, isTested}
-use Rattle.year.specs.Admissible.{enginesFull, resultsInRange, lastPeriod, fits}
+use Rattle.year.specs.Replay.{Progress, short}
+use Rattle.year.specs.Admissible.{lastPeriod, fits}
 use Rattle.year.specs.Model.{noSetup}
 use Rattle.progress.specs.State.{shown}
 use Rattle.journal.specs.Read.{readJournal}
-use Rattle.reference.specs.Call.{Readings, Entry, EnterEngine, BeginPeriod, Enter, WriteMarks, resultsOf, eventOf, ofAmendment}
-use Rattle.reference.specs.Refusals.{refusals, refusal, countsFit, allInRange}
+use Rattle.reference.specs.Call.{Entry, BeginPeriod, Enter, WriteMarks, eventOf, ofAmendment}
+use Rattle.reference.specs.Refusals.{refusals, refusal}
 use Rattle.reference.specs.Answers.{refusalsOn, refusalOn}
 use Rattle.scan.specs.declared.Scanned.{Scanned}
 use Rattle.scan.specs.Scan.{progressOf, Tells}
-use Rattle.decisions.specs.declared.Decision.the-variants.{Add, Refuse}
-use Rattle.decisions.specs.Decisions.{decision, decisionOn, commonRows, askedRows, workedRows, engineDecision}
+use Rattle.decisions.specs.declared.Decision.the-variants.{Refuse}
+use Rattle.decisions.specs.Decisions.{decision, decisionOn, commonRows}
 use Rattle.decisions.proofs.Told.{told-test}
-
--- ---- readings from a place on
-
-module _ (xs : List ℕ) (i : ℕ) where
-  pub range-stop : i < length xs → readingInRange (getD xs i 0) ≡ false → allInRange (drop i xs) ≡ false
-  range-stop h e = rw (drop-cons xs i 0 h, e)
-
-  pub range-go : i < length xs → readingInRange (getD xs i 0) ≡ true → allInRange (drop (i + 1) xs) ≡ allInRange (drop i xs)
-  range-go h e = rw (drop-cons xs i 0 h, e, add-one i)
-
-  pub range-end : length xs ≤ i → allInRange (drop i xs) ≡ true
-  range-end h = rw (drop-of-length-le xs h)
 
 -- ---- a table asked part by part
 
@@ -83,66 +67,11 @@ module _ (entry : Entry) (journal : List ℕ) where
     pub common-held : noSetup (readJournal journal) ≡ false
     common-held = none-applies common 7 (first-none common numbered none)
 
-    common-passed : decision (own entry journal) event ≡ decisionOn entry journal
+    pub common-passed : decision (own entry journal) event ≡ decisionOn entry journal
     unfolding refusal refusals
     common-passed = passed-on common (own entry journal) event numbered none
 
--- ---- the rows of status, with which those of the marks call begin
-
-abbrev pub statusRows : List ℕ → List Row
-statusRows journal = (not (eqb (length journal) 544), 3) ∷ (noSetup (readJournal journal), 7) ∷ []
-
-pub status-numbered : (journal : List ℕ) → Numbered (statusRows journal)
-status-numbered journal = omega arith
-
-pub status-held : (journal : List ℕ) → first (statusRows journal) 0 ≡ 0 → noSetup (readJournal journal) ≡ false
-status-held journal h = none-applies (statusRows journal) 7 (first-none (statusRows journal) (status-numbered journal) h)
-
--- ---- an engine on a year: its readings fit where none of 10, 11 and 12 applies, and its results where 13 does not
-
-module _ (number : ℕ) (readings : Readings) (p : Progress) where
-  pub asked-numbered : Numbered (askedRows number readings p)
-  asked-numbered = omega arith
-
-  pub asked-refused : (first (askedRows number readings p) 0 ≡ 0 → ⊥) → Refuse (first (askedRows number readings p) 0) ≡ engineDecision number readings p
-  asked-refused h =
-      let results = resultsOf (p .setup) readings in
-      refused-by (askedRows number readings p) (first (workedRows (results .hcnox) (results .co) (length (p .tested))) 0) (eventOf (p .setup) (EnterEngine number readings)) h
-
-  pub asked-counts : first (askedRows number readings p) 0 ≡ 0
-      → (length (readings .hcnox) ≡ length (readings .co)) × (1 ≤ length (readings .hcnox)) × (length (readings .hcnox) ≤ 3)
-  asked-counts h =
-      let fit = not-false (countsFit readings) (none-applies (askedRows number readings p) 11 (first-none (askedRows number readings p) asked-numbered h)) in
-      let parts = and-eq-true-iff (eqb (length (readings .hcnox)) (length (readings .co))) (countInRange (length (readings .hcnox))) .0 fit in
-      let range = and-eq-true-iff (leb 1 (length (readings .hcnox))) (leb (length (readings .hcnox)) 3) .0 (parts .1) in
-      (eqb-true (length (readings .hcnox)) (length (readings .co)) (parts .0), leb-true 1 (length (readings .hcnox)) (range .0), leb-true (length (readings .hcnox)) 3 (range .1))
-
-module _ (hcnox co count : ℕ) where
-  pub worked-numbered : Numbered (workedRows hcnox co count)
-  worked-numbered = omega arith
-
-  pub worked-results : first (workedRows hcnox co count) 0 ≡ 0 → (hcnox ≤ 20000) × (co ≤ 20000)
-  worked-results h =
-      let fit = not-false (resultInRange hcnox && resultInRange co) (first-none (workedRows hcnox co count) worked-numbered h .0) in
-      let parts = and-eq-true-iff (resultInRange hcnox) (resultInRange co) .0 fit in
-      (leb-true hcnox 20000 (parts .0), leb-true co 20000 (parts .1))
-
--- on a year, once its results are worked
-module _ (number : ℕ) (readings : Readings) (p : Progress) (asked : first (askedRows number readings p) 0 ≡ 0) (hcnox co count : ℕ)
-    (h : hcnox ≡ resultsOf (p .setup) readings .hcnox) (o : co ≡ resultsOf (p .setup) readings .co) (n : count ≡ length (p .tested)) where
-  abbrev added : Event
-  added = Engine number (length (readings .hcnox)) (record { hcnox = hcnox; co = co })
-
-  by-results : decision (first (workedRows hcnox co count) 0) added ≡ engineDecision number readings p
-  by-results = rw (h, o, n) (passed-on (askedRows number readings p) _ _ (asked-numbered number readings p) asked)
-
-  pub results-refused : (first (workedRows hcnox co count) 0 ≡ 0 → ⊥) → Refuse (first (workedRows hcnox co count) 0) ≡ engineDecision number readings p
-  results-refused f = refused-by (workedRows hcnox co count) 0 added f ∙ by-results
-
-  pub results-added : first (workedRows hcnox co count) 0 ≡ 0 → Add added ≡ engineDecision number readings p
-  results-added z = ap (λ r. decision r added) (sym z) ∙ by-results
-
--- ---- on the year that a scan has told, past the common rows
+-- ---- the next period, on the year that a scan has told
 
 module _ (journal : List ℕ) (scanned : Scanned) (t : Tells scanned (readJournal journal)) where
   abbrev p : Progress
@@ -154,18 +83,16 @@ module _ (journal : List ℕ) (scanned : Scanned) (t : Tells scanned (readJourna
       let year = told-test scanned (readJournal journal) t (common-held BeginPeriod journal none) in
       rw (Bool·not-not (lastPeriod p || short p), ← year (λ x. lastPeriod x || short x)) (common-passed BeginPeriod journal none)
 
-  pub engine-decided : (number : ℕ) (readings : Readings) → first (commonRows false journal) 0 ≡ 0
-      → engineDecision number readings p ≡ decisionOn (EnterEngine number readings) journal
-  unfolding refusals
-  engine-decided number readings none =
-      let year = told-test scanned (readJournal journal) t (common-held (EnterEngine number readings) journal none) in
-      rw (
-        ← year (λ x. isTested number (x .tested)),
-        ← year (λ x. not (resultsInRange (resultsOf (x .setup) readings))),
-        ← year enginesFull,
-        t .year,
-      )
-      (common-passed (EnterEngine number readings) journal none)
+-- ---- the rows of status, with which those of the marks call begin
+
+abbrev pub statusRows : List ℕ → List Row
+statusRows journal = (not (eqb (length journal) 544), 3) ∷ (noSetup (readJournal journal), 7) ∷ []
+
+pub status-numbered : (journal : List ℕ) → Numbered (statusRows journal)
+status-numbered journal = omega arith
+
+pub status-held : (journal : List ℕ) → first (statusRows journal) 0 ≡ 0 → noSetup (readJournal journal) ≡ false
+status-held journal h = none-applies (statusRows journal) 7 (first-none (statusRows journal) (status-numbered journal) h)
 
 -- ---- the marks call: the rows of status and then 16
 

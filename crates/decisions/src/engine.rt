@@ -1,10 +1,9 @@
 // The decision on an engine.
 ghost use mathlib.Core.Path.{_≡_};
 ghost use Rattle.buffers.specs.Rows.{first};
-ghost use Rattle.year.specs.Admissible.{enginesFull};
 ghost use Rattle.progress.specs.State.{shown, Consistent};
 ghost use Rattle.journal.specs.Read.{readJournal};
-ghost use Rattle.reference.specs.Call.{EnterEngine};
+ghost use Rattle.reference.specs.Call.{engineEntry};
 ghost use Rattle.scan.specs.Scan.{Tells};
 ghost use Rattle.decisions.specs.Decisions.{askedRows, workedRows, engineDecision, decisionOn};
 use crate::Decision;
@@ -77,7 +76,7 @@ fn engine_decision(p: Progress, number: u32, hcnox: &[u32], co: &[u32]) -> Decis
 
 pub fn engine(journal: &[u8], scanned: Scanned, number: u32, hcnox: &[u32], co: &[u32]) -> Decision
     requires { ⌜ Tells scanned (readJournal (now journal)) ⌝ }
-    ensures { λ r. ⌜ r ≡ decisionOn (EnterEngine number (record { hcnox = now (hcnox .entry); co = now (co .entry) })) (now (journal .entry)) ⌝ }
+    ensures { λ r. ⌜ r ≡ decisionOn (engineEntry number (now (hcnox .entry)) (now (co .entry))) (now (journal .entry)) ⌝ }
 {
     let common = common_refusal(journal, false, scanned);
     if common != 0 {

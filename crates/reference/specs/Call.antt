@@ -27,6 +27,10 @@ pub data Entry : Type 0 where
   BeginPeriod : Entry
   Declare : Entry
 
+-- an engine's entry by its number and the readings of HC+NOx and of CO
+abbrev pub engineEntry : ℕ → List ℕ → List ℕ → Entry
+engineEntry number hcnox co = EnterEngine number (record { hcnox = hcnox; co = co })
+
 -- the seven calls: setup, an entry, status, and marks ("the strip call") with the length of the lent output
 pub data Call : Type 0 where
   SetUp : Setup → Call

@@ -19,7 +19,7 @@ use Rattle.year.specs.Model.{Model, NoSetup, Year}
 use Rattle.year.specs.Cases.{pair, setupOf, engine, three}
 use Rattle.journal.specs.Encode.{encode}
 use Rattle.reference.specs.declared.Answer.the-variants.{Accepted, Refused}
-use Rattle.reference.specs.Call.{EnterEngine, Amend, BeginPeriod, Declare, Call, SetUp, Enter, ReadStatus, WriteMarks}
+use Rattle.reference.specs.Call.{engineEntry, Amend, BeginPeriod, Declare, Call, SetUp, Enter, ReadStatus, WriteMarks}
 use Rattle.reference.specs.Refusals.{refusal}
 use Rattle.reference.specs.Answers.{noStatus, answer, journalAfter, outAfter, marksPart}
 use Rattle.reference.specs.Model.{modelOf, journalOf, setupAccepted}
@@ -35,7 +35,7 @@ yearOf = Year (setupOf 5000 800)
 
 -- an engine with these readings
 abbrev pub entering : ℕ → List ℕ → List ℕ → Call
-entering number hcnox co = Enter (EnterEngine number (record { hcnox = hcnox; co = co }))
+entering number hcnox co = Enter (engineEntry number hcnox co)
 
 -- the call of the printed run's first and second lines
 abbrev pub newYear : Call

@@ -1,5 +1,5 @@
 -- `enter_engine` meets its contract. Assumes nothing.
-use Rattle.reference.specs.Call.{EnterEngine}
+use Rattle.reference.specs.Call.{engineEntry}
 use Rattle.scan.proofs.Whole.{tells}
 use borrow.Author.Needs.{needs}
 use Rattle.calls.proofs.Entered.{enterable, entered}
@@ -17,7 +17,7 @@ enter-requires c κs =
     let d = c .before .engine in
     let k = c .before .before .before .scan-journal in
     let a = c .before .before .before .before .before .before .before .before .args in
-    enterable (EnterEngine (a .number) (record { hcnox = a .hcnox .now; co = a .co .now })) (a .journal .now) (k .result) (tells (k .result) _ (k .ensures)) (d .result) (d .ensures)
+    enterable (engineEntry (a .number) (a .hcnox .now) (a .co .now)) (a .journal .now) (k .result) (tells (k .result) _ (k .ensures)) (d .result) (d .ensures)
 
 same-length : tie.Need-same-length
 same-length c = search needs
@@ -28,7 +28,7 @@ returns c =
     let d = e .before .before .engine in
     let k = e .before .before .before .before .scan-journal in
     let a = e .before .before .before .before .before .before .before .before .before .args in
-    entered (EnterEngine (a .number) (record { hcnox = a .hcnox .now; co = a .co .now })) (a .journal .now) (k .result) (tells (k .result) _ (k .ensures)) (d .result) (d .ensures) (e .enter .result) (e .enter .last .0) (e .enter .ensures .0) (e .enter .ensures .1)
+    entered (engineEntry (a .number) (a .hcnox .now) (a .co .now)) (a .journal .now) (k .result) (tells (k .result) _ (k .ensures)) (d .result) (d .ensures) (e .enter .result) (e .enter .last .0) (e .enter .ensures .0) (e .enter .ensures .1)
 
 pub enter-engine-spec : {M : Type 1} → statement M
 enter-engine-spec =

@@ -4,7 +4,7 @@ use Rattle.reference.specs.Call.{ReadStatus}
 use Rattle.reference.specs.Answers.{refusalOn}
 use Rattle.scan.proofs.Whole.{tells}
 use borrow.Author.Needs.{needs}
-use Rattle.calls.proofs.Kept.{refused, status-ready, status-done}
+use Rattle.calls.proofs.Promises.{refused, status-ready, status-done}
 use Rattle.calls.proofs.read_status.Statement.{statement}
 use Rattle.calls.proofs.read_status.Tie as tie
 

@@ -4,7 +4,7 @@ use Rattle.progress.specs.State.{shown}
 use Rattle.reference.specs.Call.{SetUp}
 use Rattle.reference.specs.Answers.{refusalOn}
 use borrow.Author.Needs.{needs}
-use Rattle.calls.proofs.Kept.{refused, setup-ready, setup-writable, setup-done}
+use Rattle.calls.proofs.Promises.{refused, setup-ready, setup-writable, setup-done}
 use Rattle.calls.proofs.set_up.Statement.{statement}
 use Rattle.calls.proofs.set_up.Tie as tie
 

@@ -6,7 +6,7 @@ use Rattle.reference.specs.Call.{WriteMarks}
 use Rattle.reference.specs.Answers.{refusalOn}
 use Rattle.scan.proofs.Whole.{tells}
 use borrow.Author.Needs.{needs}
-use Rattle.calls.proofs.Kept.{marks-refused, marks-few, marks-room, marks-range, marks-done}
+use Rattle.calls.proofs.Promises.{marks-refused, marks-few, marks-room, marks-range, marks-done}
 use Rattle.calls.proofs.write_marks.Statement.{statement}
 use Rattle.calls.proofs.write_marks.Tie as tie
 

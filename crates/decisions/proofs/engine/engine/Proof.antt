@@ -2,11 +2,12 @@
 use mathlib.Core.Path.{_≡_, sym, ap, _∙_}
 use mathlib.Core.Bool.{false}
 use Rattle.buffers.specs.Rows.{first}
-use Rattle.reference.specs.Call.{EnterEngine}
+use Rattle.reference.specs.Call.{engineEntry}
 use Rattle.decisions.specs.declared.Decision.the-variants.{Refuse}
 use Rattle.decisions.specs.Decisions.{commonRows}
 use borrow.Author.Needs.{needs}
-use Rattle.decisions.proofs.Parts.{common-refused, common-held, engine-decided}
+use Rattle.decisions.proofs.Parts.{common-refused, common-held}
+use Rattle.decisions.proofs.OneEngine.{engine-decided}
 use Rattle.decisions.proofs.Told.{told-consistent}
 use Rattle.decisions.proofs.engine.engine.Statement.{statement}
 use Rattle.decisions.proofs.engine.engine.Tie as tie
@@ -19,7 +20,7 @@ returns c =
     let r = c .before .common-refusal in
     let a = c .before .before .before .before .before .args in
     ap Refuse (r .ensures)
-    ∙ common-refused (EnterEngine (a .number) (record { hcnox = a .hcnox .now; co = a .co .now })) (a .journal .now) (λ z. c .if1 .taken (r .ensures ∙ z))
+    ∙ common-refused (engineEntry (a .number) (a .hcnox .now) (a .co .now)) (a .journal .now) (λ z. c .if1 .taken (r .ensures ∙ z))
 
 none : (c : tie.Else1) → first (commonRows false (c .before .before .before .before .before .args .journal .now)) 0 ≡ 0
 none c = sym (c .before .common-refusal .ensures) ∙ c .if1 .left
@@ -29,7 +30,7 @@ engine-decision-requires c κs =
     let s = c .before .before .before .before .before in
     let a = s .args in
     told-consistent (a .scanned) _ (s .pre)
-    (common-held (EnterEngine (a .number) (record { hcnox = a .hcnox .now; co = a .co .now })) (a .journal .now) (none c))
+    (common-held (engineEntry (a .number) (a .hcnox .now) (a .co .now)) (a .journal .now) (none c))
 
 returns-2 : tie.Need-returns-2
 returns-2 c =

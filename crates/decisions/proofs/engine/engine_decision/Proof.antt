@@ -10,7 +10,7 @@ use Rattle.reference.specs.Call.{Readings}
 use Rattle.decisions.specs.declared.Decision.the-variants.{Refuse}
 use Rattle.decisions.specs.Decisions.{askedRows}
 use borrow.Author.Needs.{needs}
-use Rattle.decisions.proofs.Parts.{asked-refused, asked-counts, worked-results, results-refused, results-added}
+use Rattle.decisions.proofs.OneEngine.{asked-refused, asked-counts, worked-results, results-refused, results-added}
 use Rattle.decisions.proofs.engine.engine_decision.Statement.{statement}
 use Rattle.decisions.proofs.engine.engine_decision.Tie as tie
 

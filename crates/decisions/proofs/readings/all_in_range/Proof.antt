@@ -7,7 +7,7 @@ use borrow.Author.Tests.{not-true}
 use Rattle.buffers.proofs.Tests.{not-false}
 use Rattle.reference.specs.Refusals.{allInRange}
 use borrow.Author.Needs.{needs}
-use Rattle.decisions.proofs.Parts.{range-stop, range-go, range-end}
+use Rattle.decisions.proofs.Ranging.{range-stop, range-go, range-end}
 use Rattle.decisions.proofs.readings.all_in_range.Statement.{statement}
 use Rattle.decisions.proofs.readings.all_in_range.Tie as tie
 
