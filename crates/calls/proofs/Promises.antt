@@ -1,7 +1,7 @@
 -- What each public call promises, from what its body has worked.
 -- Assumes nothing.
 use mathlib.Core.Path.{_≡_, refl, sym, ap, _∙_}
-use mathlib.Core.Bool.{true, false, true≢false}
+use mathlib.Core.Bool.{true, false}
 use mathlib.Core.List.{List, [], map}
 use Prim.Native.Nat.{ℕ, _*_, _≤_}
 use lib.ListN.{length}
@@ -12,7 +12,7 @@ use Rattle.year.specs.declared.Status.{Status}
 use Rattle.year.specs.Setup.{setupInRange}
 use Rattle.year.specs.Replay.{Progress, start}
 use Rattle.year.specs.Status.{status, printedMarks}
-use Rattle.year.specs.Model.{Model, NoSetup, Year, noSetup}
+use Rattle.year.specs.Model.{noSetup}
 use Rattle.progress.specs.State.{shown, Consistent}
 use Rattle.progress.proofs.Carried.{count-le, counted}
 use Rattle.engines.specs.Engines.{tested}
@@ -22,8 +22,8 @@ use Rattle.journal.specs.Read.{readJournal}
 use Rattle.encoder.specs.Fits.{SetupFits}
 use Rattle.encoder.proofs.Fits.{setup-fits}
 use Rattle.scan.specs.declared.Scanned.{Scanned}
-use Rattle.scan.specs.Scan.{progressOf, Tells}
-use Rattle.decisions.proofs.Told.{told-consistent}
+use Rattle.scan.specs.Scan.{Tells}
+use Rattle.decisions.proofs.Told.{told-consistent, told-is}
 use Rattle.reference.specs.declared.Answer.{Answer}
 use Rattle.reference.specs.declared.Answer.the-variants.{Accepted, Refused}
 use Rattle.reference.specs.Call.{Call, SetUp, ReadStatus, WriteMarks}
@@ -68,15 +68,11 @@ module _ (journal : List ℕ) (scanned : Scanned) (t : Tells scanned (readJourna
     pub status-ready : Consistent (scanned .progress)
     status-ready = told-consistent scanned (readJournal journal) t (accepted-year ReadStatus journal h refl)
 
-    year-of : (model : Model) (p : Progress) → noSetup model ≡ false → p ≡ progressOf model → status 1024 p ≡ statusOf model
-    year-of NoSetup p k e = absurd (true≢false k)
-    year-of (Year s es) p k e = ap (status 1024) e
-
     pub status-done : (x : Status) → x ≡ status 1024 (shown (scanned .progress)) → Promised ReadStatus journal (Accepted x) journal
     status-done x a =
-        let year = year-of (readJournal journal) (shown (scanned .progress)) (accepted-year ReadStatus journal h refl) (t .year) in
+        let year = told-is scanned (readJournal journal) t (accepted-year ReadStatus journal h refl) statusOf (status 1024) (λ s es. refl) in
         promised ReadStatus journal (Accepted x) journal
-        (rw (a, year, accepted-answer ReadStatus journal h, demand-1 .statusKept journal)) (sym (demand-1 .statusKept journal))
+        (rw (a, ← year, accepted-answer ReadStatus journal h, demand-1 .statusKept journal)) (sym (demand-1 .statusKept journal))
 
   module _ (out : List ℕ) where
     pub marks-refused : (number : ℕ) → number ≡ refusalOn (WriteMarks (length out)) journal → (number ≡ 0 → ⊥)
@@ -92,24 +88,18 @@ module _ (journal : List ℕ) (scanned : Scanned) (t : Tells scanned (readJourna
       consistent : Consistent (scanned .progress)
       consistent = told-consistent scanned (readJournal journal) t held
 
-      bytes-of : (model : Model) → noSetup model ≡ false → shown (scanned .progress) ≡ progressOf model
-          → markBytes model ≡ map markByte (printedMarks 1024 (tested (scanned .progress .engines)))
-      bytes-of NoSetup k e = absurd (true≢false k)
-      bytes-of (Year s es) k e = ap (λ (p : Progress). map markByte (printedMarks 1024 (p .tested))) (sym e)
-
       bytes : markBytes (readJournal journal) ≡ map markByte (printedMarks 1024 (tested (scanned .progress .engines)))
-      bytes = bytes-of (readJournal journal) held (t .year)
+      bytes = told-is scanned (readJournal journal) t held markBytes (λ p. map markByte (printedMarks 1024 (p .tested))) (λ s es. refl)
 
-      engines-of : (model : Model) → noSetup model ≡ false → shown (scanned .progress) ≡ progressOf model
-          → statusOf model .n ≡ scanned .progress .engines .count
-      engines-of NoSetup k e = absurd (true≢false k)
-      engines-of (Year s es) k e = ap (λ (p : Progress). length (p .tested)) (sym e) ∙ counted (scanned .progress) consistent
+      engines : statusOf (readJournal journal) .n ≡ scanned .progress .engines .count
+      engines =
+          told-is scanned (readJournal journal) t held (λ m. statusOf m .n) (λ p. length (p .tested)) (λ s es. refl) ∙ counted (scanned .progress) consistent
 
       pub marks-few : scanned .progress .engines .count ≤ 40
       marks-few = count-le (scanned .progress) consistent
 
       pub marks-room : 2 * scanned .progress .engines .count ≤ length out
-      marks-room = rw (engines-of (readJournal journal) held (t .year)) at (out-fits journal (length out) h)
+      marks-room = rw engines at (out-fits journal (length out) h)
 
       pub marks-range : (k : ℕ) → k ≤ 8192 → MarksInRange (scanned .progress .engines) k
       marks-range k fine = record { histories = consistent .inRange .histories; fine = fine }
@@ -125,6 +115,6 @@ module _ (journal : List ℕ) (scanned : Scanned) (t : Tells scanned (readJourna
       pub marks-done : (left : List ℕ) → left ≡ put out 0 (map markByte (printedMarks 1024 (tested (scanned .progress .engines))))
           → (record { refusal = 0; length = 2 * scanned .progress .engines .count } ≡ marksTold journal out) × (left ≡ outAfter journal out)
       marks-done left e = (
-        rw (h, part, mark-bytes (readJournal journal), engines-of (readJournal journal) held (t .year)),
+        rw (h, part, mark-bytes (readJournal journal), engines),
         e ∙ ap (put out 0) (sym bytes) ∙ sym all,
       )
