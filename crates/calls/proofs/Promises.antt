@@ -27,7 +27,7 @@ use Rattle.decisions.proofs.Told.{told-consistent, told-is}
 use Rattle.reference.specs.declared.Answer.{Answer}
 use Rattle.reference.specs.declared.Answer.the-variants.{Accepted, Refused}
 use Rattle.reference.specs.Call.{Call, SetUp, ReadStatus, WriteMarks}
-use Rattle.reference.specs.Answers.{refusalOn, journalAfter, statusOf, answer, answerOf, told, markBytes, outAfter, marksPart, marksTold}
+use Rattle.reference.specs.Answers.{refusalOn, journalAfter, statusOf, answer, answerOf, told, markBytes, outAfter, marksPart, marksAnswer}
 use Rattle.reference.proofs.Validity.{setup-valid}
 use Rattle.reference.proofs.Given.{accepted-gives, accepted-answer, refused-answer, answer-told, accepted-size, accepted-year, accepted-refusal}
 use Rattle.reference.proofs.Demand1.{demand-1, out-fits, mark-bytes}
@@ -76,7 +76,7 @@ module _ (journal : List ℕ) (scanned : Scanned) (t : Tells scanned (readJourna
 
   module _ (out : List ℕ) where
     pub marks-refused : (number : ℕ) → number ≡ refusalOn (WriteMarks (length out)) journal → (number ≡ 0 → ⊥)
-        → (record { refusal = number; length = 0 } ≡ marksTold journal out) × (out ≡ outAfter journal out)
+        → (record { refusal = number; length = 0 } ≡ marksAnswer journal out) × (out ≡ outAfter journal out)
     marks-refused number e f =
         let g : refusalOn (WriteMarks (length out)) journal ≡ 0 → ⊥ = λ z. f (e ∙ z) in
         (rw (e, demand-1 .refusedPart journal out g), sym (demand-1 .refusedOut journal out g))
@@ -113,7 +113,7 @@ module _ (journal : List ℕ) (scanned : Scanned) (t : Tells scanned (readJourna
       all = accepted-gives (WriteMarks (length out)) journal (put out 0 (markBytes (readJournal journal))) out h
 
       pub marks-done : (left : List ℕ) → left ≡ put out 0 (map markByte (printedMarks 1024 (tested (scanned .progress .engines))))
-          → (record { refusal = 0; length = 2 * scanned .progress .engines .count } ≡ marksTold journal out) × (left ≡ outAfter journal out)
+          → (record { refusal = 0; length = 2 * scanned .progress .engines .count } ≡ marksAnswer journal out) × (left ≡ outAfter journal out)
       marks-done left e = (
         rw (h, part, mark-bytes (readJournal journal), engines),
         e ∙ ap (put out 0) (sym bytes) ∙ sym all,

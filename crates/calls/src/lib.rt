@@ -1,11 +1,12 @@
 // The public calls on a lent journal: setup, the four entries, status and marks. None asks anything of its arguments or of what is lent to it. Each promises its
-// whole answer, what that answer tells in the specification's numbers (`answerOf`), and every byte of each buffer that it may write, refused or not.
+// whole answer (its value, which pins the case, and what it tells in the specification's numbers, `answerOf`) and every byte of each buffer that it may write,
+// refused or not; but for `marks`, of which see there.
 ghost use mathlib.Core.Path.{_≡_};
 ghost use lib.ListN.{length};
 ghost use denote.Ref.{ptr};
 ghost use Rattle.progress.specs.State.{shown};
 ghost use Rattle.reference.specs.Call.{engineEntry, Amend, BeginPeriod, Declare, SetUp, Enter, ReadStatus, WriteMarks};
-ghost use Rattle.reference.specs.Answers.{refusalOn, journalAfter, answer, answerOf, told, outAfter, marksPart, marksTold};
+ghost use Rattle.reference.specs.Answers.{refusalOn, journalAfter, answer, answerOf, told, outAfter, marksPart, marksAnswer};
 ghost use Rattle.calls.specs.Entering.{Enterable, answerTo, journalWith};
 use decisions::Decision;
 use decisions::engine::engine;
@@ -22,7 +23,7 @@ use progress::Progress;
 use progress::events::after;
 use progress::events::start;
 use reference::Answer;
-use reference::Written;
+use reference::MarksAnswer;
 use scan::scan_journal;
 use verdicts::status::status_of;
 use year::Pair;
@@ -115,24 +116,25 @@ pub fn read_status(journal: &[u8]) -> Answer
 }
 
 // Marks, at the front of the output.
-pub fn write_marks(journal: &[u8], out: &mut [u8]) -> Written
-    ensures { λ r. ⌜ r ≡ marksTold (now (journal .entry)) (now (out .entry)) ⌝ }
+pub fn write_marks(journal: &[u8], out: &mut [u8]) -> MarksAnswer
+    ensures { λ r. ⌜ r ≡ marksAnswer (now (journal .entry)) (now (out .entry)) ⌝ }
     ensures { λ _. ⌜ now (out .exit) ≡ outAfter (now (journal .entry)) (now (out .entry)) ⌝ }
 {
     let scanned = scan_journal(journal);
     let refusal = marks_refusal(journal, scanned, out.len());
     if refusal != 0 {
-        return Written { refusal, length: 0 };
+        return MarksAnswer { refusal, length: 0 };
     }
     let engines = scanned.progress.engines;
     print_marks(engines, 1024, out);
-    Written {
+    MarksAnswer {
         refusal: 0,
         length: 2 * engines.count,
     }
 }
 
-// Marks, with just the written part of the output handed back, an empty one where the call is refused. Of the rest of the output `write_marks` tells.
+// Marks, with just the written part of the output handed back, an empty one where the call is refused. It promises the part's bytes, where the part starts and the
+// refusal; of the rest of an output that the part keeps lent no contract can speak. `write_marks`, which does the work, promises every byte.
 pub fn marks<'a>(journal: &[u8], out: &'a mut [u8], refusal: &mut u8) -> &'a mut [u8]
     ensures { λ r. ⌜ now r ≡ marksPart (now (journal .entry)) (now (out .entry)) ⌝ }
     ensures { λ r. ⌜ ptr r ≡ ptr (out .entry) ⌝ }

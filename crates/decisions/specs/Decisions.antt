@@ -1,5 +1,5 @@
--- What an entry comes to, by the table of refusals: the event that it adds, or the number of its refusal. Nothing is defined anew here: the rows are those of
--- `refusals` that an entry can meet, in its order and in parts, as the code asks them.
+-- What an entry comes to, by the table of refusals: the event that it adds, or the number of its refusal. The rows that an entry can meet
+-- are listed in parts, as the code asks them, and proved to be those of `refusals` in their order (proofs/Parts, OneEngine).
 -- Assumes nothing.
 use mathlib.Core.Bool.{Bool, cond, not, _&&_, _||_}
 use mathlib.Core.List.{List, [], _∷_}
@@ -28,11 +28,11 @@ decision refusal e = cond (eqb refusal 0) (Add e) (Refuse refusal)
 abbrev pub decisionOn : Entry → List ℕ → Decision
 decisionOn entry journal = decision (refusalOn (Enter entry) journal) (eventOf (progressOf (readJournal journal) .setup) entry)
 
--- the rows that every entry may meet, 3, 7, 8 and 9, and in its place 5, which only an amendment can meet
+-- the rows that every entry may meet, 3, 7, 8 and 9, and in its place 5, where an amendment's standards are unfit
 abbrev pub commonRows : Bool → List ℕ → List Row
-commonRows standards journal =
+commonRows unfit journal =
     (not (eqb (length journal) 544), 3)
-    ∷ (standards, 5)
+    ∷ (unfit, 5)
     ∷ (noSetup (readJournal journal), 7)
     ∷ (ofYear closed (readJournal journal), 8)
     ∷ (ofYear eventsFull (readJournal journal), 9)

@@ -58,9 +58,9 @@ fn engine_decision(p: Progress, number: u32, hcnox: &[u32], co: &[u32]) -> Decis
         return Decision::Refuse(asked);
     }
     let factors = p.setup.factors;
-    let first = result_of(factors.hcnox, hcnox);
-    let second = result_of(factors.co, co);
-    let worked = worked_refusal(first, second, p.engines.count);
+    let hcnox_result = result_of(factors.hcnox, hcnox);
+    let co_result = result_of(factors.co, co);
+    let worked = worked_refusal(hcnox_result, co_result, p.engines.count);
     if worked != 0 {
         return Decision::Refuse(worked);
     }
@@ -68,8 +68,8 @@ fn engine_decision(p: Progress, number: u32, hcnox: &[u32], co: &[u32]) -> Decis
         number,
         readings: hcnox.len() as u32,
         results: Pair {
-            hcnox: first as u32,
-            co: second as u32,
+            hcnox: hcnox_result as u32,
+            co: co_result as u32,
         },
     })
 }

@@ -15,15 +15,15 @@ use verdicts::verdict::closed;
 use year::Event;
 use year::Pair;
 
-// 3, 7, 8 and 9, and in its place 5, which only an amendment can meet.
-pub fn common_refusal(journal: &[u8], standards: bool, scanned: Scanned) -> u8
+// 3, 7, 8 and 9, and in its place 5, where an amendment's standards are unfit.
+pub fn common_refusal(journal: &[u8], unfit: bool, scanned: Scanned) -> u8
     requires { ⌜ Tells scanned (readJournal (now journal)) ⌝ }
-    ensures { λ r. ⌜ r ≡ first (commonRows standards (now (journal .entry))) 0 ⌝ }
+    ensures { λ r. ⌜ r ≡ first (commonRows unfit (now (journal .entry))) 0 ⌝ }
 {
     if journal.len() != 544 {
         return 3;
     }
-    if standards {
+    if unfit {
         return 5;
     }
     if !scanned.accepted {

@@ -21,6 +21,7 @@ unfolding nearestEven variation t95 sizeReached compared failed undecided put pe
 cases =
     record {
       journalSize = refl;
+      journalLonger = refl;
       volume = refl;
       standard = refl;
       factorKind = refl;
@@ -30,9 +31,11 @@ cases =
       amendmentNoSetup = refl;
       statusNoSetup = refl;
       marksNoSetup = refl;
+      engineNoSetup = refl;
       afterDeclaration = refl;
       afterFailure = simp deviation-none;
       statusDeclared = refl;
+      declaredAndStored = refl;
       eventsStored = refl;
       numberZero = refl;
       numberAbove = refl;
@@ -41,6 +44,8 @@ cases =
       countsDiffer = refl;
       fourReadings = refl;
       reading = refl;
+      readingHcnox = refl;
+      readingCo = refl;
       result = refl;
       periodShort = refl;
       periodLast = simp deviation-none;
@@ -64,4 +69,7 @@ cases =
       refusedInList = refl;
       journalOfOne = refl;
       modelAnew = refl;
+      modelEngine = refl;
+      modelDeclared = refl;
+      modelPeriod = simp deviation-none;
     }

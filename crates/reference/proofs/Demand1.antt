@@ -3,7 +3,7 @@
 use mathlib.Core.Path.{_≡_, refl, sym, ap, _∙_}
 use mathlib.Core.Logic.{_↔_, _≢_, inl, inr, ⊎-elim}
 use mathlib.Core.Bool.{false}
-use mathlib.Core.List.{List, [], _∷_}
+use mathlib.Core.List.{List, [], _∷_, map}
 use Prim.Native.Nat.{ℕ, _+_, _*_, _≤_, _<_}
 use native.Mathlib.Nat.{eq-or-lt-of-le}
 use native.Mathlib.Decide.{decLt}
@@ -12,7 +12,7 @@ use lib.Dec.{eqb}
 use lib.ListN.{length, getD, length-map}
 use borrow.Author.Tests.{eqb-true, ltb-false}
 use Rattle.buffers.specs.Bytes.{put, Outside}
-use Rattle.buffers.specs.Rows.{applies, FirstApplies, NoneApplies}
+use Rattle.buffers.specs.Rows.{Row, applies, FirstApplies, NoneApplies}
 use Rattle.buffers.proofs.Lists.{length-put, put-other}
 use Rattle.buffers.proofs.Rows.{first-is, first-applies, first-none, none-is}
 use Rattle.buffers.proofs.Tests.{by-test}
@@ -135,7 +135,7 @@ accepted-if call journal =
     (first-none (refusalsOn call journal) (refusals-numbered (length journal) call (readJournal journal)), none-is (refusalsOn call journal) 0)
 
 pub demand-1 : Demand1
-unfolding journalAfter
+unfolding journalAfter refusals
 demand-1 =
     record {
       refusedJournal = refused-journal;
@@ -152,7 +152,9 @@ demand-1 =
       outSize = λ journal out. by-marks (λ b. length b ≡ length out) journal out refl (length-put out 0 (markBytes (readJournal journal)));
       refusedBy = refused-by;
       accepted = accepted-if;
+      order = λ call journal. refl;
       returned = returned;
+      marksReturned = λ journal out. refl;
       refusedStatus = refused-status;
       refusedPart = refused-part;
     }

@@ -30,6 +30,7 @@ use Rattle.reference.specs.Demand2.{figuresOf, Shows, Demand2}
 use Rattle.reference.proofs.Stored.{stored-calls}
 use Rattle.reference.proofs.WithSetup.{accepted-has}
 use Rattle.reference.proofs.Given.{accepted-gives, accepted-answer, accepted-size, accepted-year, accepted-reads, status-accepted}
+use Rattle.reference.proofs.Entering.{could-enter}
 use Rattle.reference.proofs.Demand1.{demand-1}
 
 -- ---- the figures of one pollutant
@@ -134,6 +135,7 @@ demand-2 =
     record {
       setUp = λ s journal. accepted-reads (SetUp s) journal;
       entered = λ entry journal s es e h. accepted-reads (Enter entry) journal h ∙ rw e;
+      couldEnter = λ entry journal s es e. could-enter journal s es e entry;
       held = after-year;
       shown = λ call journal s es h e. rw (accepted-answer call journal h, e) (shows (replay s es));
       answered = answered;

@@ -1,14 +1,20 @@
 -- Demand 3, proved.
 -- Assumes nothing.
-use mathlib.Core.Path.{_≡_, ap, _∙_}
-use mathlib.Core.Bool.{false}
+use mathlib.Core.Path.{_≡_, refl, sym, ap, _∙_}
+use mathlib.Core.Bool.{false, cond}
 use mathlib.Core.List.{List, [], reverse}
 use Prim.Native.Nat.{ℕ, _*_, _≤_}
+use native.Mathlib.Omega.{arith}
+use lib.Dec.{eqb}
 use lib.ListN.{length}
+use Rattle.cumsum.specs.declared.Mark.{Mark}
+use Rattle.cumsum.specs.declared.Mark.the-variants.{Unmarked, Over, Under, Undecided}
+use Rattle.cumsum.specs.Marks.{markByte}
 use Rattle.year.specs.declared.Setup.{Setup}
 use Rattle.year.specs.declared.Event.{Event}
 use Rattle.year.specs.Replay.{replay}
 use Rattle.year.specs.Model.{NoSetup, Year, noSetup}
+use Rattle.year.specs.FinerWork.{FinerWork}
 use Rattle.year.proofs.Finer.{finer-work}
 use Rattle.journal.specs.Read.{readJournal}
 use Rattle.reference.specs.Call.{Call, ReadStatus, WriteMarks}
@@ -36,6 +42,10 @@ module _ (journal : List ℕ) (s : Setup) (es : List Event) (e : readJournal jou
   shown : Shows (statusOn journal) (replay s es)
   shown = demand-2 .shown ReadStatus journal s es reads (ap readJournal (demand-1 .statusKept journal) ∙ e)
 
+  -- (the newest engine's are at any m the whole year's)
+  work : FinerWork 1 (replay s es)
+  work = finer-work s es 1 (omega arith)
+
   calculated : Calculated journal s es
   calculated =
       record {
@@ -44,8 +54,8 @@ module _ (journal : List ℕ) (s : Setup) (es : List Event) (e : readJournal jou
         out = λ out h. demand-2 .marks journal out s es e (fits out h);
         statusAccepted = reads;
         verdict = shown .verdict;
-        cumsum = shown .cumsum;
-        limit = shown .limit;
+        cumsum = λ q h. rw (work .newest q) (shown .cumsum q h);
+        limit = λ q h. rw (work .newest q) (shown .limit q h);
       }
 
   finer-journal : (m : ℕ) → 1 ≤ m → FinerJournal m journal s es
@@ -68,9 +78,23 @@ module _ (calls : List Call) (m : ℕ) (pos : 1 ≤ m) where
       let held = stored-calls .every (reverse calls) in
       record {
         readsBack = held;
+        refusals = λ call. rw (held .size, held .reads);
         withSetup = λ h. with-setup (model-has-setup (reverse calls) h);
         withoutSetup = λ h. before-setup (journalOf (reverse calls)) (held .size) (held .reads ∙ model-has-none (reverse calls) h);
       }
 
+-- the mark that a byte stands for
+abbrev markOf : ℕ → Mark
+markOf byte = cond (eqb byte 45) Unmarked (cond (eqb byte 79) Over (cond (eqb byte 85) Under Undecided))
+
+mark-of : (a : Mark) → markOf (markByte a) ≡ a
+mark-of Unmarked = refl
+mark-of Over = refl
+mark-of Under = refl
+mark-of Undecided = refl
+
+told-apart : (a b : Mark) → markByte a ≡ markByte b → a ≡ b
+told-apart a b e = sym (mark-of a) ∙ ap markOf e ∙ mark-of b
+
 pub demand-3 : Demand3
-demand-3 = record { lists = after-calls; others = finer-journal }
+demand-3 = record { apart = told-apart; lists = after-calls; others = finer-journal }

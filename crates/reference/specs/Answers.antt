@@ -16,7 +16,7 @@ use Rattle.journal.specs.Encode.{encode, append}
 use Rattle.journal.specs.Read.{readJournal}
 use Rattle.reference.specs.declared.Answer.{Answer}
 use Rattle.reference.specs.declared.Answer.the-variants.{Accepted, Refused}
-use Rattle.reference.specs.declared.Written.{Written}
+use Rattle.reference.specs.declared.MarksAnswer.{MarksAnswer}
 use Rattle.reference.specs.Call.{Entry, Call, SetUp, Enter, ReadStatus, WriteMarks, eventOf}
 use Rattle.reference.specs.Refusals.{refusals, refusal}
 
@@ -90,5 +90,5 @@ unfoldable pub marksPart : List ℕ → List ℕ → List ℕ
 marksPart journal out = ifAccepted (WriteMarks (length out)) journal (markBytes (readJournal journal)) []
 
 -- what it tells beside them: its refusal, and how many bytes it wrote, none where it is refused
-abbrev pub marksTold : List ℕ → List ℕ → Written
-marksTold journal out = record { refusal = refusalOn (WriteMarks (length out)) journal; length = length (marksPart journal out) }
+abbrev pub marksAnswer : List ℕ → List ℕ → MarksAnswer
+marksAnswer journal out = record { refusal = refusalOn (WriteMarks (length out)) journal; length = length (marksPart journal out) }

@@ -13,7 +13,7 @@ use Rattle.rounding.specs.Cases.{noFactor}
 use Rattle.year.specs.declared.Pair.{Pair}
 use Rattle.year.specs.declared.Setup.{Setup}
 use Rattle.year.specs.declared.Event.{Event}
-use Rattle.year.specs.declared.Event.the-variants.{Amendment, Declaration}
+use Rattle.year.specs.declared.Event.the-variants.{Engine, Amendment, NextPeriod, Declaration}
 use Rattle.year.specs.Status.{blank}
 use Rattle.year.specs.Model.{Model, NoSetup, Year}
 use Rattle.year.specs.Cases.{pair, setupOf, engine, three}
@@ -47,6 +47,7 @@ engineOne = entering 1 (998000 ∷ []) (5000000 ∷ [])
 pub record Cases : Type 0 where
   -- 3, before all others
   pub journalSize : refusal 543 (SetUp (setupWith 0 (pair 800 6100) noFactor)) NoSetup ≡ 3
+  pub journalLonger : refusal 545 ReadStatus NoSetup ≡ 3
   -- 4 to 6, of a setup
   pub volume : refusal 544 (SetUp (setupWith 0 (pair 5 6100) noFactor)) NoSetup ≡ 4
   pub standard : refusal 544 (SetUp (setupWith 5000 (pair 800 6105) (record { kind = 2; value = 0 }))) NoSetup ≡ 5
@@ -59,10 +60,14 @@ pub record Cases : Type 0 where
   pub amendmentNoSetup : refusal 544 (Enter (Amend (pair 20 10))) NoSetup ≡ 7
   pub statusNoSetup : refusal 544 ReadStatus NoSetup ≡ 7
   pub marksNoSetup : refusal 544 (WriteMarks 0) NoSetup ≡ 7
+  -- 7, before 10
+  pub engineNoSetup : refusal 544 (entering 0 [] []) NoSetup ≡ 7
   -- 8, after a declaration and after a failure; status still reads
   pub afterDeclaration : refusal 544 (entering 0 [] []) (yearOf (Declaration ∷ [])) ≡ 8
   pub afterFailure : refusal 544 (Enter Declare) (Year (setupOf 5000 100) three) ≡ 8
   pub statusDeclared : refusal 544 ReadStatus (yearOf (Declaration ∷ [])) ≡ 0
+  -- 8, before 9: the sixty-fourth event is a declaration
+  pub declaredAndStored : refusal 544 (Enter Declare) (yearOf (Declaration ∷ replicate 63 (Amendment (pair 10 10)))) ≡ 8
   -- 9, with 64 amendments
   pub eventsStored : refusal 544 (entering 0 [] []) (yearOf (replicate 64 (Amendment (pair 10 10)))) ≡ 9
   -- 10, a number out of range or in the book, before 11
@@ -73,8 +78,10 @@ pub record Cases : Type 0 where
   pub noReadings : refusal 544 (entering 1 [] []) (yearOf []) ≡ 11
   pub countsDiffer : refusal 544 (entering 1 (20000001 ∷ []) []) (yearOf []) ≡ 11
   pub fourReadings : refusal 544 (entering 1 (1 ∷ 1 ∷ 1 ∷ 1 ∷ []) (1 ∷ 1 ∷ 1 ∷ 1 ∷ [])) (yearOf []) ≡ 11
-  -- 12, before 13
   pub reading : refusal 544 (entering 1 (1 ∷ []) (20000001 ∷ [])) (yearOf []) ≡ 12
+  -- 12, before 13: a result of 20,001
+  pub readingHcnox : refusal 544 (entering 1 (20001000 ∷ []) (1 ∷ [])) (yearOf []) ≡ 12
+  pub readingCo : refusal 544 (entering 1 (1 ∷ []) (20001000 ∷ [])) (yearOf []) ≡ 12
   -- 13: 20,000 and 60 more
   pub result : refusal 544 (entering 1 (20000000 ∷ []) (1 ∷ [])) (Year (setupWith 5000 (pair 800 6100) (record { kind = 0; value = 60000 })) []) ≡ 13
   -- 15, in a short period, and in the last
@@ -101,6 +108,11 @@ pub record Cases : Type 0 where
   pub modelOfNone : modelOf (Enter Declare ∷ engineOne ∷ []) ≡ NoSetup
   pub modelOfOne : modelOf (engineOne ∷ engineOne ∷ newYear ∷ engineOne ∷ []) ≡ yearOf (engine 1 998 ∷ [])
   pub modelOfTwo : modelOf (Enter (Amend (pair 700 6100)) ∷ engineOne ∷ newYear ∷ []) ≡ yearOf (Amendment (pair 700 6100) ∷ engine 1 998 ∷ [])
+  -- each entry adds its own event: an engine with its number, its reading count and results worked from all readings; a declaration; a next period
+  pub modelEngine : modelOf (entering 7 (998000 ∷ 1000000 ∷ []) (5000000 ∷ 5002000 ∷ []) ∷ newYear ∷ []) ≡ yearOf (Engine 7 2 (pair 999 5001) ∷ [])
+  pub modelDeclared : modelOf (Enter Declare ∷ newYear ∷ []) ≡ yearOf (Declaration ∷ [])
+  pub modelPeriod : modelOf (Enter BeginPeriod ∷ entering 2 (1000000 ∷ []) (5000000 ∷ []) ∷ entering 1 (1000000 ∷ []) (5000000 ∷ []) ∷ SetUp (setupOf 5000 1000) ∷ [])
+      ≡ Year (setupOf 5000 1000) (NextPeriod ∷ engine 2 1000 ∷ engine 1 1000 ∷ [])
   pub modelAnew : modelOf (newYear ∷ Enter Declare ∷ engineOne ∷ newYear ∷ []) ≡ yearOf []
   -- an accepted setup in a list, and only a refused one
   pub acceptedInList : setupAccepted (Enter Declare ∷ newYear ∷ []) ≡ true

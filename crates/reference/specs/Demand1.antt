@@ -3,18 +3,18 @@
 -- Assumes nothing.
 use mathlib.Core.Path.{_≡_}
 use mathlib.Core.Logic.{_↔_, _≢_}
-use mathlib.Core.List.{List, []}
+use mathlib.Core.List.{List, [], _∷_, map}
 use Prim.Native.Nat.{ℕ, _*_, _≤_, _<_}
 use lib.ListN.{length, getD}
 use Rattle.buffers.specs.Bytes.{Outside}
-use Rattle.buffers.specs.Rows.{FirstApplies, NoneApplies}
+use Rattle.buffers.specs.Rows.{Row, FirstApplies, NoneApplies}
 use Rattle.year.specs.declared.Setup.{Setup}
 use Rattle.year.specs.declared.Event.{Event}
 use Rattle.year.specs.Model.{Year}
 use Rattle.journal.specs.Encode.{encode, slotPlace, append}
 use Rattle.journal.specs.Read.{readJournal}
 use Rattle.reference.specs.Call.{Entry, Call, SetUp, Enter, ReadStatus, WriteMarks, eventOf}
-use Rattle.reference.specs.Answers.{refusalsOn, refusalOn, journalAfter, noStatus, statusOf, answer, answerOf, outAfter, marksPart}
+use Rattle.reference.specs.Answers.{refusalsOn, refusalOn, journalAfter, noStatus, statusOf, answer, answerOf, outAfter, marksPart, marksAnswer}
 
 pub record Demand1 : Type 0 where
   -- "The book and the strip .. are, after a refused call, byte for byte what they were"
@@ -38,7 +38,9 @@ pub record Demand1 : Type 0 where
   -- "A call is refused only if one of 01's refusals applies, and the first that applies, in 01's order, is the one returned."
   pub refusedBy : (call : Call) (journal : List ℕ) (r : ℕ) → 0 < r → (refusalOn call journal ≡ r) ↔ FirstApplies (refusalsOn call journal) r
   pub accepted : (call : Call) (journal : List ℕ) → (refusalOn call journal ≡ 0) ↔ NoneApplies (refusalsOn call journal)
+  pub order : (call : Call) (journal : List ℕ) → map (λ (row : Row). row .1) (refusalsOn call journal) ≡ 3 ∷ 4 ∷ 5 ∷ 6 ∷ 7 ∷ 8 ∷ 9 ∷ 10 ∷ 11 ∷ 12 ∷ 13 ∷ 14 ∷ 15 ∷ 16 ∷ []
   pub returned : (call : Call) (journal : List ℕ) → answerOf (answer call journal) .refusal ≡ refusalOn call journal
+  pub marksReturned : (journal out : List ℕ) → marksAnswer journal out .refusal ≡ refusalOn (WriteMarks (length out)) journal
   -- "every other figure of the answer zero, marks '-', N absent, and an empty part" (document 01, "Refused calls, in checking order")
   pub refusedStatus : (call : Call) (journal : List ℕ) → refusalOn call journal ≢ 0 → answerOf (answer call journal) .status ≡ noStatus
   pub refusedPart : (journal out : List ℕ) → refusalOn (WriteMarks (length out)) journal ≢ 0 → marksPart journal out ≡ []

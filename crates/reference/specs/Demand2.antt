@@ -2,7 +2,7 @@
 -- for each setup and list.
 -- Assumes nothing.
 use mathlib.Core.Path.{_≡_}
-use mathlib.Core.Bool.{false}
+use mathlib.Core.Bool.{Bool, true, false, not, _||_}
 use mathlib.Core.List.{List, [], _∷_, map}
 use Prim.Native.Nat.{ℕ, _≤_, _<_}
 use lib.ListN.{length, take}
@@ -19,10 +19,12 @@ use Rattle.year.specs.Setup.{Pollutant, Hcnox, Co}
 use Rattle.year.specs.Replay.{Progress, replay, history}
 use Rattle.year.specs.Verdict.{verdict}
 use Rattle.year.specs.Status.{blank, printedMarks}
+use Rattle.year.specs.Admissible.{admissible}
 use Rattle.year.specs.Model.{Year, noSetup}
 use Rattle.journal.specs.Read.{readJournal}
 use Rattle.journal.specs.OneJournal.{OneJournal}
-use Rattle.reference.specs.Call.{Entry, Call, SetUp, Enter, ReadStatus, WriteMarks, eventOf}
+use Rattle.reference.specs.Call.{Entry, Call, SetUp, Enter, ReadStatus, WriteMarks, eventOf, ofEngine}
+use Rattle.reference.specs.Refusals.{countsFit, readingsFit}
 use Rattle.reference.specs.Answers.{refusalOn, journalAfter, answer, answerOf, outAfter, marksPart}
 
 abbrev pub figuresOf : Pollutant → Status → Figures
@@ -43,11 +45,19 @@ pub record Shows (status : Status) (p : Progress) : Type 0 where
   -- "Before engine 2 the figures other than n, S and verdict are zero and N is absent; with no engine the mark is '-'."
   pub early : (q : Pollutant) → length (p .tested) < 2 → figuresOf q status ≡ blank (total (history q (p .tested)))
 
+-- an engine's reading counts or readings are refused, whatever the year (11, 12)
+abbrev pub unreadable : Entry → Bool
+unreadable = ofEngine (λ number readings. not (countsFit readings) || not (readingsFit readings))
+
 pub record Demand2 : Type 0 where
   -- what is stored: a setup as it is given, and an entry's event, an engine's with the results worked from its readings (`eventOf`)
   pub setUp : (s : Setup) (journal : List ℕ) → refusalOn (SetUp s) journal ≡ 0 → readJournal (journalAfter (SetUp s) journal) ≡ Year s []
   pub entered : (entry : Entry) (journal : List ℕ) (s : Setup) (es : List Event) → readJournal journal ≡ Year s es → refusalOn (Enter entry) journal ≡ 0
       → readJournal (journalAfter (Enter entry) journal) ≡ Year s (eventOf s entry ∷ es)
+  -- and the other way: an entry whose event the year admits, its readings 1 to 3 for each pollutant and in range, is accepted. So the events of an accepted
+  -- journal "could have been entered in that order" (document 01, "The book")
+  pub couldEnter : (entry : Entry) (journal : List ℕ) (s : Setup) (es : List Event) → readJournal journal ≡ Year s es
+      → admissible (replay s es) (eventOf s entry) ≡ true → unreadable entry ≡ false → refusalOn (Enter entry) journal ≡ 0
   -- what is answered: each figure of the year that the journal then holds (an accepted call leaves none without), which is what status answers on that journal
   pub held : (call : Call) (journal : List ℕ) → refusalOn call journal ≡ 0 → noSetup (readJournal (journalAfter call journal)) ≡ false
   pub shown : (call : Call) (journal : List ℕ) (s : Setup) (es : List Event) → refusalOn call journal ≡ 0 → readJournal (journalAfter call journal) ≡ Year s es

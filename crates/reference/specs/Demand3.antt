@@ -6,6 +6,7 @@ use mathlib.Core.List.{List, map, reverse}
 use Prim.Native.Nat.{ℕ, _*_, _≤_}
 use lib.ListN.{length}
 use Rattle.buffers.specs.Bytes.{put}
+use Rattle.cumsum.specs.declared.Mark.{Mark}
 use Rattle.cumsum.specs.Marks.{markByte}
 use Rattle.year.specs.declared.Setup.{Setup}
 use Rattle.year.specs.declared.Event.{Event}
@@ -13,12 +14,14 @@ use Rattle.year.specs.declared.Status.{Status}
 use Rattle.year.specs.Setup.{Pollutant}
 use Rattle.year.specs.Replay.{replay}
 use Rattle.year.specs.Model.{Year}
+use Rattle.year.specs.Work.{marksAt, verdictAt, cumsumAt, limitAt}
 use Rattle.year.specs.FinerWork.{FinerWork}
 use Rattle.journal.specs.Read.{readJournal}
 use Rattle.reference.specs.declared.Answer.the-variants.{Refused}
 use Rattle.reference.specs.Call.{Call, ReadStatus, WriteMarks}
 use Rattle.reference.specs.Answers.{refusalOn, answer, answerOf, outAfter, marksPart}
-use Rattle.reference.specs.Model.{modelOf, journalOf, setupAccepted, marksAt, verdictAt, cumsumAt, limitAt}
+use Rattle.reference.specs.Refusals.{refusal}
+use Rattle.reference.specs.Model.{modelOf, journalOf, setupAccepted}
 use Rattle.reference.specs.Stored.{Holds}
 use Rattle.reference.specs.Demand2.{figuresOf}
 
@@ -30,14 +33,16 @@ statusOn journal = answerOf (answer ReadStatus journal) .status
 pub record Calculated (journal : List ℕ) (s : Setup) (es : List Event) : Type 0 where
   -- "the strip, handed back in any buffer long enough, is the marks at m = 1"; and so are the bytes at the front of that buffer
   pub marksAccepted : (out : List ℕ) → 2 * length (replay s es .tested) ≤ length out → refusalOn (WriteMarks (length out)) journal ≡ 0
-  pub marks : (out : List ℕ) → 2 * length (replay s es .tested) ≤ length out → marksPart journal out ≡ map markByte (marksAt 1 s es)
-  pub out : (out : List ℕ) → 2 * length (replay s es .tested) ≤ length out → outAfter journal out ≡ put out 0 (map markByte (marksAt 1 s es))
+  pub marks : (out : List ℕ) → 2 * length (replay s es .tested) ≤ length out → marksPart journal out ≡ map markByte (marksAt 1 (replay s es))
+  pub out : (out : List ℕ) → 2 * length (replay s es .tested) ≤ length out → outAfter journal out ≡ put out 0 (map markByte (marksAt 1 (replay s es)))
   -- "the verdict from status is that at m = 1"
   pub statusAccepted : refusalOn ReadStatus journal ≡ 0
-  pub verdict : statusOn journal .verdict ≡ verdictAt 1 s es
+  pub verdict : statusOn journal .verdict ≡ verdictAt 1 (replay s es)
   -- "The calculator's brackets are those at m = 1; from engine 2 on, status gives the newest engine's."
-  pub cumsum : (q : Pollutant) → 2 ≤ length (replay s es .tested) → figuresOf q (statusOn journal) .cumsum ≡ cumsumAt 1 s es q
-  pub limit : (q : Pollutant) → 2 ≤ length (replay s es .tested) → figuresOf q (statusOn journal) .limit ≡ limitAt 1 s es q
+  pub cumsum : (q : Pollutant) → 2 ≤ length (replay s es .tested)
+      → figuresOf q (statusOn journal) .cumsum ≡ cumsumAt 1 (replay s es) (length (replay s es .tested)) q
+  pub limit : (q : Pollutant) → 2 ≤ length (replay s es .tested)
+      → figuresOf q (statusOn journal) .limit ≡ limitAt 1 (replay s es) (length (replay s es .tested)) q
 
 -- a journal of this setup and these events: what the calculator gives on it, and work at m beside that
 pub record FinerJournal (m : ℕ) (journal : List ℕ) (s : Setup) (es : List Event) : Type 0 where
@@ -50,20 +55,24 @@ pub record BeforeSetup (journal : List ℕ) : Type 0 where
   pub status : answer ReadStatus journal ≡ Refused 7
   pub marks : (size : ℕ) → refusalOn (WriteMarks size) journal ≡ 7
 
--- after a list of calls, in the order in which they are made, the newest first in `modelOf` and `journalOf`
+-- after a list of calls, in the order in which they are made; `modelOf` and `journalOf` take the newest first
 module _ (calls : List Call) (m : ℕ) where
-  abbrev after : List Call
-  after = reverse calls
+  abbrev newestFirst : List Call
+  newestFirst = reverse calls
 
   pub record AfterCalls : Type 0 where
     -- the journal that the calls leave is read as the reference model, which is fed their arguments alone
-    pub readsBack : Holds (journalOf after) (modelOf after)
+    pub readsBack : Holds (journalOf newestFirst) (modelOf newestFirst)
+    -- so a further call is accepted or refused on the journal as it is by the model
+    pub refusals : (call : Call) → refusalOn call (journalOf newestFirst) ≡ refusal 544 call (modelOf newestFirst)
     -- "every list of these calls with an accepted setup in it": the model then has a setup, whose finer work is this
-    pub withSetup : setupAccepted after ≡ true
-        → (s : Setup) × (es : List Event) × (modelOf after ≡ Year s es) × FinerJournal m (journalOf after) s es
-    pub withoutSetup : setupAccepted after ≡ false → BeforeSetup (journalOf after)
+    pub withSetup : setupAccepted newestFirst ≡ true
+        → (s : Setup) × (es : List Event) × (modelOf newestFirst ≡ Year s es) × FinerJournal m (journalOf newestFirst) s es
+    pub withoutSetup : setupAccepted newestFirst ≡ false → BeforeSetup (journalOf newestFirst)
 
 pub record Demand3 : Type 0 where
+  -- the strip's bytes tell marks apart, so what is said of marks is said of the strip
+  pub apart : (a b : Mark) → markByte a ≡ markByte b → a ≡ b
   pub lists : (calls : List Call) (m : ℕ) → 1 ≤ m → AfterCalls calls m
   -- "this holds for every other accepted book too": "its strip is compared with the marks at m of the setup and list that it reads back as"
   pub others : (journal : List ℕ) (s : Setup) (es : List Event) → readJournal journal ≡ Year s es → (m : ℕ) → 1 ≤ m → FinerJournal m journal s es

@@ -2,18 +2,9 @@
 -- Assumes nothing.
 use mathlib.Core.Bool.{Bool, false, cond, _&&_, _||_}
 use mathlib.Core.List.{List, [], _∷_}
-use Prim.Native.Nat.{ℕ, _*_}
+use Prim.Native.Nat.{ℕ}
 use lib.Dec.{eqb}
 use Rattle.buffers.specs.Bytes.{zeros}
-use Rattle.cumsum.specs.declared.Interval.{Interval}
-use Rattle.cumsum.specs.declared.Mark.{Mark}
-use Rattle.cumsum.specs.Intervals.{cumsum, actionLimit}
-use Rattle.year.specs.declared.Setup.{Setup}
-use Rattle.year.specs.declared.Event.{Event}
-use Rattle.year.specs.Setup.{Pollutant}
-use Rattle.year.specs.Replay.{replay, history}
-use Rattle.year.specs.Verdict.{verdict}
-use Rattle.year.specs.Status.{printedMarks}
 use Rattle.year.specs.Model.{Model, NoSetup, Year}
 use Rattle.reference.specs.Call.{Entry, Call, SetUp, Enter, ReadStatus, WriteMarks, eventOf, isSetup}
 use Rattle.reference.specs.Refusals.{refusal}
@@ -50,17 +41,5 @@ abbrev pub setupAccepted : List Call → Bool
 setupAccepted [] = false
 setupAccepted (call ∷ calls) = isSetup call && eqb (refusal 544 call (modelOf calls)) 0 || setupAccepted calls
 
--- "At m it has the marks, brackets and verdict that the definitions give for this setup and these events in work at m." An interval is that of the newest
--- engine; "from engine 2 on, status gives" those at m = 1
-module _ (m : ℕ) (s : Setup) (es : List Event) where
-  abbrev pub marksAt : List Mark
-  marksAt = printedMarks (1024 * m) (replay s es .tested)
-
-  abbrev pub verdictAt : ℕ
-  verdictAt = verdict (1024 * m) (replay s es)
-
-  abbrev pub cumsumAt : Pollutant → Interval
-  cumsumAt q = cumsum (1024 * m) (history q (replay s es .tested))
-
-  abbrev pub limitAt : Pollutant → Interval
-  limitAt q = actionLimit (1024 * m) (history q (replay s es .tested))
+-- ("At m it has the marks, brackets and verdict that the definitions give for this setup and these events in work at m": `marksAt`, `cumsumAt`, `limitAt` and
+-- `verdictAt` of `replay s es`, in the crate year, specs/Work.)

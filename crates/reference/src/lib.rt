@@ -8,7 +8,7 @@ pub enum Answer {
 }
 
 // What the marks call tells beside the bytes that it writes: its refusal, 0 for none, and how many bytes it wrote.
-pub struct Written {
+pub struct MarksAnswer {
     pub refusal: u8,
     pub length: usize,
 }

@@ -19,7 +19,8 @@ use Rattle.year.specs.Replay.{Tested, Progress, replay, history}
 use Rattle.year.specs.Verdict.{verdict}
 use Rattle.year.specs.Status.{printedMarks}
 use Rattle.year.proofs.Replayed.{history-length}
-use Rattle.year.specs.FinerWork.{FinerWork, atEngine}
+use Rattle.year.specs.Work.{atEngine}
+use Rattle.year.specs.FinerWork.{FinerWork}
 
 -- lists that are related place by place, one after the other
 related-append : {R : Mark → Mark → Type 0} {l l′ n n′ : List Mark} → Forall₂ R l l′ → Forall₂ R n n′ → Forall₂ R (l ++ n) (l′ ++ n′)
@@ -76,6 +77,7 @@ finer-progress m pos p =
       limitWithin = λ q n _ _. inside-within 1024 m _ _ (limit-inside 1024 m (atEngine n q p));
       cumsumWidth = λ q n _ few. rw (at-length n q p few) at (cumsum-width 1024 (atEngine n q p));
       limitWidth = λ q n _ _. limit-width 1024 (atEngine n q p);
+      newest = λ q. let whole : length (p .tested) - length (p .tested) ≡ 0 = omega arith in rw whole;
     }
 
 -- for every setup, every list of events and every m from 1 up

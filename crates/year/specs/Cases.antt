@@ -4,19 +4,21 @@
 use mathlib.Core.Path.{_≡_}
 use mathlib.Core.Bool.{true, false}
 use mathlib.Core.List.{List, [], _∷_}
-use Prim.Native.Nat.{ℕ, zero, suc, _*_}
+use Prim.Native.Nat.{ℕ, zero, suc}
 use Rattle.rounding.specs.Cases.{noFactor}
 use Rattle.statistics.specs.declared.SampleSize.the-variants.{Tenths}
 use Rattle.cumsum.specs.declared.Mark.the-variants.{Unmarked, Over, Under}
+use Rattle.cumsum.specs.Cases.{from}
 use Rattle.year.specs.declared.Pair.{Pair}
 use Rattle.year.specs.declared.Setup.{Setup}
 use Rattle.year.specs.declared.Event.{Event}
 use Rattle.year.specs.declared.Event.the-variants.{Engine, Amendment, NextPeriod, Declaration}
-use Rattle.year.specs.Setup.{Hcnox}
+use Rattle.year.specs.Setup.{Hcnox, Co}
 use Rattle.year.specs.Replay.{Progress, replay, history}
 use Rattle.year.specs.Verdict.{verdict, onePercent}
 use Rattle.year.specs.Admissible.{enginesFull, valid}
 use Rattle.year.specs.Status.{blank, status, printedMarks}
+use Rattle.year.specs.Work.{atEngine, marksAt, verdictAt, cumsumAt, limitAt}
 
 abbrev pub pair : ℕ → ℕ → Pair
 pair hcnox co = record { hcnox = hcnox; co = co }
@@ -60,7 +62,15 @@ pub record Cases : Type 0 where
   pub verdictDeclared : verdict 1024 (replay (setupOf 5000 800) (Declaration ∷ engine 2 1071 ∷ engine 1 998 ∷ [])) ≡ 7
   -- T 800, X 998, 1,071, 926: marks '-', '?', 'O' are verdict 5. Work at m = 8 settles the '?' by 'O', and the year has failed
   pub verdictUndecided : verdict 1024 (replay (setupOf 5000 800) (engine 3 926 ∷ engine 2 1071 ∷ engine 1 998 ∷ [])) ≡ 5
-  pub verdictSettled : verdict (1024 * 8) (replay (setupOf 5000 800) (engine 3 926 ∷ engine 2 1071 ∷ engine 1 998 ∷ [])) ≡ 6
+  pub verdictSettled : verdictAt 8 (replay (setupOf 5000 800) (engine 3 926 ∷ engine 2 1071 ∷ engine 1 998 ∷ [])) ≡ 6
+  -- work at m = 8 of the first two: s 422,861, e 1
+  pub marksAt8 : marksAt 8 two ≡ Unmarked ∷ Unmarked ∷ Over ∷ Under ∷ []
+  pub cumsumAt8 : cumsumAt 8 two 2 Hcnox ≡ from 8457266 8457267
+  pub limitAt8 : limitAt 8 two 2 Hcnox ≡ from 8457220 8457240
+  -- the year as it was at engine 1, and at engine 2 as CO sees it
+  pub atEngine1 : atEngine 1 Hcnox two ≡ record { result = 998; standard = 800 } ∷ []
+  pub atEngine2 : atEngine 2 Co (replay (setupOf 5000 800) (Engine 3 1 (pair 3 33) ∷ Engine 2 1 (pair 2 22) ∷ Engine 1 1 (pair 1 11) ∷ []))
+      ≡ record { result = 22; standard = 6100 } ∷ record { result = 11; standard = 6100 } ∷ []
   -- n = N is no stop: standard 100, results 23, 23, 83, 83, N is exactly 4
   pub verdictAtN : verdict 1024 (replay (setupOf 5000 100) (engine 4 83 ∷ engine 3 83 ∷ engine 2 23 ∷ engine 1 23 ∷ [])) ≡ 1
   -- one percent of 150 is 2 (1.5): with two engines, verdict 4
@@ -84,4 +94,5 @@ pub record Cases : Type 0 where
   pub failedIsClosed : valid (setupOf 5000 100) (NextPeriod ∷ three) ≡ false
   pub threeIsValid : valid (setupOf 5000 100) three ≡ true
   pub numberTwice : valid (setupOf 5000 1000) (engine 1 900 ∷ engine 1 800 ∷ []) ≡ false
+  pub numberOfOlder : valid (setupOf 5000 1000) (engine 1 900 ∷ engine 2 800 ∷ engine 1 800 ∷ []) ≡ false
   pub shortPeriod : valid (setupOf 5000 1000) (NextPeriod ∷ engine 1 800 ∷ []) ≡ false

@@ -6,6 +6,7 @@ pub mod Admissible
 pub mod Status
 pub mod Ranges
 pub mod Model
+pub mod Work
 pub mod FinerWork
 pub mod Cases
 pub mod StarredCases

@@ -3,7 +3,7 @@ use mathlib.Core.Path.{_≡_, refl, sym, ap}
 use native.Mathlib.Omega.{arith}
 use lib.ListN.{take, length-take, length}
 use lib.Seq.{length-take-le}
-use Rattle.reference.specs.declared.Written.{Written}
+use Rattle.reference.specs.declared.MarksAnswer.{MarksAnswer}
 use Rattle.reference.specs.Answers.{marksPart}
 use Rattle.reference.proofs.Demand2.{demand-2}
 use borrow.Author.Needs.{needs}
@@ -26,13 +26,13 @@ front c =
 slice-aggregate-result : tie.Need-slice-aggregate-result
 slice-aggregate-result c =
     let w = c .before .before .before .write-marks in
-    let told = ap (λ (x : Written). x .length) (w .ensures .0) in
+    let told = ap (λ (x : MarksAnswer). x .length) (w .ensures .0) in
     sym (length-take-le _ _ (omega (arith, told, ap length (front c), length-take (w .result .length) (w .last .1 .0))))
 
 returns : tie.Need-returns
 returns c =
     let w = c .before .before .before .write-marks in
-    (front c, (refl, ap (λ (x : Written). x .refusal) (w .ensures .0)))
+    (front c, (refl, ap (λ (x : MarksAnswer). x .refusal) (w .ensures .0)))
 
 pub marks-spec : {M : Type 1} → statement M
 marks-spec = tie.close (tie.spec write-marks-requires slice-aggregate-result returns)
