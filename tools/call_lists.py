@@ -18,6 +18,7 @@ and for L:
   refusal length |the array of 100| refusal |the part handed back| digest of the 100 bytes after that second call, digest of the 560 bytes.
 
 Each answer is worked twice: as the lowest refusal of all that hold, and as what the plain year of the calls (the arguments alone) says.
+Each strip is worked a second way, from fractions, and beside work at m = 2 and 8, which must keep what demand 3 says.
 Counts of what was met go to standard error; the script fails if a refusal, a verdict, a mark or a pair of refusals that can hold at once (of which the
 lower must come) was never met.
 """
@@ -27,7 +28,7 @@ import sys
 from collections import Counter
 from itertools import combinations
 from damaged_journals import literal_marks
-from model import MAX_ENGINES, MAX_EVENTS, SIZE, Pollutant, Year, encode, factor_ok, read, result_of, self_check, standard_ok
+from model import K, MAX_ENGINES, MAX_EVENTS, SIZE, Pollutant, Year, encode, factor_ok, read, result_of, self_check, standard_ok
 
 ARRAY, STRIP = 560, 100
 MODULUS = 4294967291
@@ -66,6 +67,27 @@ def year_of(setup, events):
 
 def strip_of(year):
     return ''.join(a + b for a, b in zip(year.h.marks, year.c.marks))
+
+
+class Finer(Year):
+    """Work at m: the events of the book stay, also where the finer marks have failed."""
+
+    def closed(self):
+        return False
+
+
+def finer_work(year, m):
+    """Demand 3 for one book: how many open marks work at m settles, every other mark, verdict and bracket being as it must be."""
+    finer = Finer(year.setup, K * m)
+    for ev in year.events:
+        assert finer.enter(ev) == 0
+    pairs = list(zip(strip_of(year), strip_of(finer)))
+    assert len(strip_of(finer)) == len(pairs) and all(a == b or a == '?' and b in 'OU' for a, b in pairs)
+    assert year.verdict() in (5, finer.verdict())
+    for p, q in ((year.h, finer.h), (year.c, finer.c)):
+        assert m * p.c_low <= q.c_low <= q.c_high <= m * p.c_high and p.c_high - p.c_low <= max(0, p.n - 1)
+        assert m * p.h_low <= q.h_low <= q.h_high <= m * p.h_high and p.h_high - p.h_low <= 20
+    return sum(a != b for a, b in pairs)
 
 
 def call_of(letter, numbers):
@@ -133,7 +155,7 @@ class Lists:
         self.plain = None                   # the plain year: what the arguments of the calls alone leave
         self.input, self.output = [], []
         self.refusals, self.verdicts, self.marks, self.pairs = Counter(), Counter(), Counter(), Counter()
-        self.strips = Counter()
+        self.strips, self.settled = Counter(), Counter()
 
     def book(self):
         got = read(bytes(self.array[:self.lent]))
@@ -217,6 +239,8 @@ class Lists:
         if not refusal:                     # the marks worked in another way: the spread of each engine anew, from fractions
             again = [literal_marks(year.setup, year.events, which) for which in (0, 1)]
             assert marks == ''.join(a + b for a, b in zip(*again))
+            for m in (2, 8):
+                self.settled[m] += finer_work(year, m)
         assert len(marks) <= size
         self.strips.update(marks)
         whole = marks + '.' * (STRIP - len(marks))
@@ -1192,6 +1216,8 @@ def counts(o):
     assert set(o.verdicts) == set(range(8)) and set(by_number) == {0} | set(range(3, 17))
     tell('newest marks of a status', dict(o.marks), 'marks of strips', dict(o.strips))
     assert set(o.marks) == set(o.strips) == set('-OU?')
+    tell('open marks that work at m settles', dict(o.settled))
+    assert all(o.settled.values())
 
 
 def main():

@@ -3,7 +3,7 @@
 use mathlib.Core.Path.{_≡_, refl, sym, ap, _∙_}
 use mathlib.Core.Logic.{_↔_, _≢_, inl, inr, ⊎-elim}
 use mathlib.Core.Bool.{false}
-use mathlib.Core.List.{List, [], _∷_, map}
+use mathlib.Core.List.{List, [], _∷_}
 use Prim.Native.Nat.{ℕ, _+_, _*_, _≤_, _<_}
 use native.Mathlib.Nat.{eq-or-lt-of-le}
 use native.Mathlib.Decide.{decLt}
@@ -12,7 +12,7 @@ use lib.Dec.{eqb}
 use lib.ListN.{length, getD, length-map}
 use borrow.Author.Tests.{eqb-true, ltb-false}
 use Rattle.buffers.specs.Bytes.{put, Outside}
-use Rattle.buffers.specs.Rows.{Row, applies, FirstApplies, NoneApplies}
+use Rattle.buffers.specs.Rows.{applies, FirstApplies, NoneApplies}
 use Rattle.buffers.proofs.Lists.{length-put, put-other}
 use Rattle.buffers.proofs.Rows.{first-is, first-applies, first-none, none-is}
 use Rattle.buffers.proofs.Tests.{by-test}
