@@ -8,8 +8,8 @@ use Prim.Native.Nat.{ℕ, zero, suc, _+_, _-_, _≤_, _<_}
 use native.Mathlib.Nat.{sub-zero, zero-sub, suc-sub-suc}
 use native.Mathlib.Numerals.{add-one}
 use native.Mathlib.Omega.{arith}
-use lib.ListN.{length, getD, take, drop, set, drop-of-length-le, length-append, length-take, length-drop, length-replicate}
-use lib.Seq.{sets, sets-eq, set-split, getD-set-other, drop-cons, append-snoc, take-all, take-nil, take-at, drop-at, drop-drop}
+use lib.ListN.{length, getD, take, drop, set, drop-of-length-le, length-append, length-take, length-drop, length-replicate, take-append-drop}
+use lib.Seq.{sets, sets-eq, set-split, getD-set-other, drop-cons, append-snoc, take-all, take-nil, take-at, drop-at, drop-drop, drop-append-le, paste, paste-zero, take-length, length-take-le}
 use borrow.Author.Tests.{ne-eqb}
 use borrow.Rule.Slice.PartMut.{putMid, post-is}
 use Rattle.buffers.specs.Bytes.{put, Outside, zeros, isZero}
@@ -72,7 +72,7 @@ sets-all xs vs h =
     let rest : drop (0 + length vs) xs ≡ [] = drop-of-length-le xs {i = 0 + length vs} (omega arith) in
     sets-eq vs xs 0 (omega arith) ∙ rw rest (append-nil vs)
 
--- ---- a part that was lent and comes back, and a store, as bytes put over a buffer's own
+-- ---- a part that was lent and comes back, a store, and a copy, as bytes put over a buffer's own
 
 module _ (buffer : List ℕ) (place : ℕ) where
   pub put-part : (end : ℕ) (bytes : List ℕ) → place + length bytes ≡ end → putMid place (end - place) buffer bytes ≡ put buffer place bytes
@@ -84,6 +84,14 @@ module _ (buffer : List ℕ) (place : ℕ) where
   unfolding put
   put-one byte h =
       rw (set-split buffer place byte h, add-one place) (sym (append-snoc (take place buffer) byte (drop (suc place) buffer)))
+
+  pub put-copy : (bytes : List ℕ) → paste buffer place bytes (length bytes) ≡ put buffer place bytes
+  unfolding put
+  put-copy bytes = rw take-length
+
+  pub put-none : put buffer place [] ≡ buffer
+  unfolding put
+  put-none = sym (paste-zero buffer place [])
 
   pub length-put : (bytes : List ℕ) → place + length bytes ≤ length buffer → length (put buffer place bytes) ≡ length buffer
   unfolding put
@@ -105,6 +113,34 @@ module _ (buffer : List ℕ) (place : ℕ) where
         both,
         append-assoc (take place buffer) xs ys,
       )
+
+-- bytes put in front of those just put
+pub put-front : (buffer xs ys : List ℕ) → length xs ≤ length buffer → put (put buffer (length xs) ys) 0 xs ≡ put buffer 0 (xs ++ ys)
+unfolding put
+put-front buffer xs ys h =
+    let front = take (length xs) buffer in
+    let rest = drop (length xs + length ys) buffer in
+    let none : 0 + length xs ≡ length xs = omega arith in
+    let both : 0 + length (xs ++ ys) ≡ length xs + length ys = omega (arith, length-append xs ys) in
+    rw (
+      none,
+      both,
+      append-assoc front ys rest,
+      drop-at front (ys ++ rest) (length xs) (length-take-le (length xs) buffer h),
+      append-assoc xs ys rest,
+    )
+
+-- bytes put at the front of a part that was lent and comes back
+pub put-within : (buffer : List ℕ) (place n : ℕ) (bytes : List ℕ) → length bytes ≤ n → place + n ≤ length buffer
+    → putMid place n buffer (put (take n (drop place buffer)) 0 bytes) ≡ put buffer place bytes
+unfolding put
+put-within buffer place n bytes h k =
+    let rest = drop place buffer in
+    let size : length (take n rest) ≡ n = length-take-le n rest (omega (arith, length-drop place buffer)) in
+    let behind : drop (length bytes) (take n rest) ++ drop n rest ≡ drop (place + length bytes) buffer =
+    sym (drop-append-le (length bytes) (take n rest) (drop n rest) (omega (arith, size))) ∙ rw take-append-drop (drop-drop (length bytes) place buffer) in
+    let none : 0 + length bytes ≡ length bytes = omega arith in
+    rw (none, append-assoc bytes (drop (length bytes) (take n rest)) (drop n rest), behind) (sym (append-assoc (take place buffer) bytes (drop (place + length bytes) buffer)))
 
 -- ---- bytes put over a buffer's own leave it as it was at every other index
 

@@ -1,3 +1,5 @@
-pub mod Cases
-pub mod Run
-pub mod Steps
+pub mod Parts
+pub mod Listing
+pub mod Made
+pub mod Lines
+pub mod Keying

@@ -1,5 +1,1 @@
-pub mod Number
-pub mod KeyLine
-pub mod Reply
-pub mod Run
-pub mod Cases
+pub mod Keys

@@ -1,0 +1,47 @@
+-- The worked cases of the key line.
+-- Assumes nothing.
+use mathlib.Core.Path.{refl}
+use Rattle.protocol.specs.Number.{digits, spelt, isNumber, numberAt}
+use Rattle.protocol.specs.KeyLine.{spacedNumber, numbersFrom, callOf, commandOf}
+use Rattle.protocol.specs.Reply.{decimalUpTo, decimal}
+use Rattle.protocol.specs.Cases.{Cases}
+use Rattle.protocol.proofs.Run.{document-run}
+
+pub cases : Cases
+unfolding digits spelt isNumber numberAt spacedNumber numbersFrom callOf commandOf decimalUpTo decimal
+cases =
+    record {
+      setup = refl;
+      engine = refl;
+      amendment = refl;
+      period = refl;
+      declaration = refl;
+      marks = refl;
+      fourReadings = refl;
+      noReadings = refl;
+      eightReadings = refl;
+      oddReadings = refl;
+      noNumber = refl;
+      eightDigits = refl;
+      nineDigits = refl;
+      leadingZero = refl;
+      twoZeros = refl;
+      twoSpaces = refl;
+      spaceAtEnd = refl;
+      noSpace = refl;
+      tab = refl;
+      otherByte = refl;
+      otherCount = refl;
+      numberAfterPeriod = refl;
+      otherLetter = refl;
+      smallLetter = refl;
+      emptyLine = refl;
+      bytes64 = refl;
+      bytes65 = refl;
+      twoLines = refl;
+      threeLines = refl;
+      refusedBy16 = refl;
+      noMarks = refl;
+      twoTested = refl;
+      documentRun = document-run;
+    }

@@ -1,0 +1,5 @@
+pub mod Cases
+pub mod Run
+pub mod Steps
+pub mod Session
+pub mod Console

@@ -1,0 +1,96 @@
+-- Lines on a journal of zeros go the way of the reference model.
+-- Assumes nothing.
+use mathlib.Core.Path.{_≡_, refl, ap, _∙_}
+use mathlib.Core.Bool.{Bool, true, false, cond}
+use mathlib.Core.List.{List, [], _∷_, reverse, reverseAux}
+use Prim.Native.Nat.{ℕ}
+use lib.Dec.{eqb}
+use lib.ListN.{length}
+use borrow.Author.Tests.{eqb-true}
+use Rattle.year.specs.Model.{Model}
+use Rattle.journal.specs.Read.{readJournal}
+use Rattle.journal.proofs.OneJournal.{demand}
+use Rattle.reference.specs.declared.Answer.the-variants.{Accepted, Refused}
+use Rattle.reference.specs.Call.{Call, SetUp, Enter, ReadStatus, WriteMarks}
+use Rattle.reference.specs.Refusals.{refusal}
+use Rattle.reference.specs.Answers.{journalAfter, statusOf, answer, markBytes}
+use Rattle.reference.specs.Model.{stepModel, modelOf, journalOf}
+use Rattle.reference.specs.Stored.{Holds}
+use Rattle.reference.proofs.Stored.{stored-calls}
+use Rattle.protocol.specs.KeyLine.{Command, Make, Refuse, commandOf}
+use Rattle.protocol.specs.Reply.{refusalReply, answerReply, callReply, commandReply, commandAfter, replyTo, journalAfterLine}
+use Rattle.protocol.specs.Run.{replies}
+use Rattle.protocol.specs.Session.{andCall, callsOf, journalAfterLines, acceptedReply, modelReply, modelReplies, Session}
+
+-- one call on a journal that holds the model's state
+module _ (calls : List Call) where
+  abbrev journal : List ℕ
+  journal = journalOf calls
+
+  abbrev model : Model
+  model = modelOf calls
+
+  holds : Holds journal model
+  holds = stored-calls .every calls
+
+  status-reply : (call : Call) → answerReply (answer call journal)
+      ≡ cond (eqb (refusal 544 call model) 0) (answerReply (Accepted (statusOf (stepModel call model)))) (refusalReply (refusal 544 call model))
+  unfolding answer
+  status-reply call = rw (holds .size, holds .reads, stored-calls .every (call ∷ calls) .reads) (by (eqb (refusal 544 call model) 0))
+    where
+      by : (b : Bool) → answerReply (cond b (Accepted (statusOf (stepModel call model))) (Refused (refusal 544 call model)))
+          ≡ cond b (answerReply (Accepted (statusOf (stepModel call model)))) (refusalReply (refusal 544 call model))
+      by true = refl
+      by false = refl
+
+  -- a marks call leaves the state, accepted or not
+  marks-leave : (size : ℕ) → stepModel (WriteMarks size) model ≡ model
+  unfolding stepModel
+  marks-leave size = by (eqb (refusal 544 (WriteMarks size) model) 0)
+    where
+      by : (b : Bool) → cond b model model ≡ model
+      by true = refl
+      by false = refl
+
+  call-reply : (call : Call) → callReply call journal ≡ modelReply (Make call) model
+  call-reply (SetUp s) = status-reply (SetUp s)
+  call-reply (Enter entry) = status-reply (Enter entry)
+  call-reply ReadStatus = status-reply ReadStatus
+  call-reply (WriteMarks size) = rw (holds .size, holds .reads, marks-leave size)
+
+  command-reply : (command : Command) → commandReply command journal ≡ modelReply command model
+  command-reply (Make call) = call-reply call
+  command-reply (Refuse number) = refl
+
+  command-after : (command : Command) → commandAfter command journal ≡ journalOf (andCall command calls)
+  command-after (Make call) = refl
+  command-after (Refuse number) = refl
+
+-- lines after the calls of earlier lines
+from-replies : (calls : List Call) (lines : List (List ℕ)) → replies (journalOf calls) lines ≡ modelReplies calls lines
+unfolding replyTo journalAfterLine
+from-replies calls [] = refl
+from-replies calls (line ∷ lines) =
+    rw (command-reply calls (commandOf line), command-after calls (commandOf line), from-replies (andCall (commandOf line) calls) lines)
+
+-- a line's call comes before those of later lines
+then-calls : (command : Command) (later calls : List Call) → reverseAux later (andCall command calls) ≡ reverseAux (andCall command later) calls
+then-calls (Make call) later calls = refl
+then-calls (Refuse number) later calls = refl
+
+from-journal : (calls : List Call) (lines : List (List ℕ)) → journalAfterLines (journalOf calls) lines ≡ journalOf (reverseAux (callsOf lines) calls)
+unfolding journalAfterLine
+from-journal calls [] = refl
+from-journal calls (line ∷ lines) =
+    rw (command-after calls (commandOf line)) (from-journal (andCall (commandOf line) calls) lines ∙ ap journalOf (then-calls (commandOf line) (callsOf lines) calls))
+
+pub session : (lines : List (List ℕ)) → Session lines
+session lines =
+    let same = from-journal [] lines in
+    let held = stored-calls .every (reverse (callsOf lines)) in
+    record {
+      replied = from-replies [] lines;
+      calls = same;
+      readsBack = rw same held;
+      stored = λ s es e. same ∙ demand .accepted (journalOf (reverse (callsOf lines))) s es (held .reads ∙ e) .stored;
+    }

@@ -1,0 +1,74 @@
+-- Worked cases of the key line, and document 01's whole run.
+-- Assumes nothing.
+use mathlib.Core.Path.{_≡_}
+use mathlib.Core.List.{[], _∷_}
+use Rattle.buffers.specs.Text.{text}
+use Rattle.statistics.specs.declared.SampleSize.{SampleSize}
+use Rattle.statistics.specs.declared.SampleSize.the-variants.{Tenths, Absent}
+use Rattle.cumsum.specs.declared.Mark.{Mark}
+use Rattle.cumsum.specs.declared.Mark.the-variants.{Under, Undecided}
+use Rattle.year.specs.declared.Figures.{Figures}
+use Rattle.year.specs.Cases.{pair, setupOf}
+use Rattle.reference.specs.Call.{EnterEngine, Amend, BeginPeriod, Declare, SetUp, Enter, WriteMarks}
+use Rattle.protocol.specs.KeyLine.{Make, Refuse, commandOf}
+use Rattle.protocol.specs.Reply.{refusalReply, marksReply, statusReply}
+use Rattle.protocol.specs.Run.{linesOf, run}
+
+-- figures of which a reply shows the mark and the sample size
+abbrev pub marked : Mark → SampleSize → Figures
+marked mark size =
+    record {
+      sum = 0;
+      deviation = record { floor = 0; inexact = 0 };
+      cumsum = record { low = 0; high = 0 };
+      limit = record { low = 0; high = 0 };
+      size = size;
+      mark = mark;
+    }
+
+pub record Cases : Type 0 where
+  -- each letter
+  pub setup : commandOf (text "S 5000 365 800 6100 0 0 0 0") ≡ Make (SetUp (setupOf 5000 800))
+  pub engine : commandOf (text "E 1 998000 5000000") ≡ Make (Enter (EnterEngine 1 (record { hcnox = 998000 ∷ []; co = 5000000 ∷ [] })))
+  pub amendment : commandOf (text "A 800 6100") ≡ Make (Enter (Amend (pair 800 6100)))
+  pub period : commandOf (text "P") ≡ Make (Enter BeginPeriod)
+  pub declaration : commandOf (text "X") ≡ Make (Enter Declare)
+  pub marks : commandOf (text "L") ≡ Make (WriteMarks 80)
+  -- the HC+NOx readings come first
+  pub fourReadings : commandOf (text "E 7 1 2 3 4") ≡ Make (Enter (EnterEngine 7 (record { hcnox = 1 ∷ 2 ∷ []; co = 3 ∷ 4 ∷ [] })))
+  -- an even count of readings is for the call to refuse, also none and eight; an odd count, and no engine number, is not of the form
+  pub noReadings : commandOf (text "E 7") ≡ Make (Enter (EnterEngine 7 (record { hcnox = []; co = [] })))
+  pub eightReadings : commandOf (text "E 7 1 1 1 1 2 2 2 2")
+      ≡ Make (Enter (EnterEngine 7 (record { hcnox = 1 ∷ 1 ∷ 1 ∷ 1 ∷ []; co = 2 ∷ 2 ∷ 2 ∷ 2 ∷ [] })))
+  pub oddReadings : commandOf (text "E 7 1 2 3") ≡ Refuse 2
+  pub noNumber : commandOf (text "E") ≡ Refuse 2
+  -- 1 to 8 digits, no leading zero but in 0
+  pub eightDigits : commandOf (text "A 99999999 0") ≡ Make (Enter (Amend (pair 99999999 0)))
+  pub nineDigits : commandOf (text "A 100000000 0") ≡ Refuse 2
+  pub leadingZero : commandOf (text "A 0800 6100") ≡ Refuse 2
+  pub twoZeros : commandOf (text "A 00 0") ≡ Refuse 2
+  -- exactly one space, and nothing else
+  pub twoSpaces : commandOf (text "A 800  6100") ≡ Refuse 2
+  pub spaceAtEnd : commandOf (text "A 800 6100 ") ≡ Refuse 2
+  pub noSpace : commandOf (text "A800 6100") ≡ Refuse 2
+  pub tab : commandOf (text "A\t800 6100") ≡ Refuse 2
+  pub otherByte : commandOf (text "A 800 6100x") ≡ Refuse 2
+  pub otherCount : commandOf (text "A 800") ≡ Refuse 2
+  pub numberAfterPeriod : commandOf (text "P 1") ≡ Refuse 2
+  pub otherLetter : commandOf (text "T 1") ≡ Refuse 2
+  pub smallLetter : commandOf (text "p") ≡ Refuse 2
+  pub emptyLine : commandOf [] ≡ Refuse 2
+  -- 64 bytes are read, 65 are not
+  pub bytes64 : commandOf (text "E 1 11111111 11111111 11111111 11111111 11111111 11111111 2222 3")
+      ≡ Make (Enter (EnterEngine 1 (record { hcnox = 11111111 ∷ 11111111 ∷ 11111111 ∷ 11111111 ∷ []; co = 11111111 ∷ 11111111 ∷ 2222 ∷ 3 ∷ [] })))
+  pub bytes65 : commandOf (text "E 1 11111111 11111111 11111111 11111111 11111111 11111111 2222 33") ≡ Refuse 1
+  -- the newline may be missing at the end of the input, and only there
+  pub twoLines : linesOf (text "P\nX") ≡ text "P" ∷ text "X" ∷ []
+  pub threeLines : linesOf (text "P\n\nX\n") ≡ text "P" ∷ [] ∷ text "X" ∷ []
+  -- replies that the run lacks
+  pub refusedBy16 : refusalReply 16 ≡ text "NO 16"
+  pub noMarks : marksReply [] ≡ text "OK"
+  pub twoTested : statusReply (record { n = 2; verdict = 1; hcnox = marked Undecided (Tenths 30); co = marked Under Absent }) ≡ text "OK 2 1 ?U 30 -"
+  -- document 01, "Input and print of a whole run"
+  pub documentRun : run (text "S 5000 365 800 6100 0 0 0 0\nE 1 998000 5000000\nE 2 1071000 5000000\nE 3 900000 5000000\nL\nX\nE 4 1 1\n")
+      ≡ text "OK 0 0 -- - -\nOK 1 0 -- - -\nOK 2 1 ?U 30 10\nOK 3 1 UU 28 10\nOK --?UUU\nOK 3 7 UU 28 10\nNO 8\n"

@@ -1,0 +1,92 @@
+-- Document 01, "Key line": a letter, then numbers, each after one space; and the call that these make.
+-- Assumes nothing.
+use mathlib.Core.Bool.{cond}
+use mathlib.Core.List.{List, [], _∷_}
+use mathlib.Core.Option.{Option, some, none}
+use Prim.Native.Nat.{ℕ, zero, suc, _+_, _/_, _%_}
+use lib.Dec.{ltb, eqb}
+use lib.ListN.{length, getD, take, drop}
+use Rattle.buffers.specs.Text.{byte}
+use Rattle.year.specs.declared.Setup.{Setup}
+use Rattle.reference.specs.Call.{EnterEngine, Amend, BeginPeriod, Declare, Call, SetUp, Enter, WriteMarks}
+use Rattle.protocol.specs.declared.Number.{Number}
+use Rattle.protocol.specs.declared.Number.the-variants.{Value, Nothing}
+use Rattle.protocol.specs.Number.{numberAt}
+
+-- "numbers, each after one space": a space at a position, and the number after it
+unfoldable pub spacedNumber : List ℕ → ℕ → Number
+spacedNumber line position = cond (eqb (getD line position 0) (byte " ")) (numberAt line (position + 1)) Nothing
+
+-- a number in front of those that follow it, if they can be read; "if no number can be read there, the line is refused"
+abbrev pub inFront : ℕ → Option (List ℕ) → Option (List ℕ)
+inFront v (some vs) = some (v ∷ vs)
+inFront v none = none
+
+abbrev pub andThen : Number → (ℕ → Option (List ℕ)) → Option (List ℕ)
+andThen (Value v next) more = inFront v (more next)
+andThen Nothing more = none
+
+-- the numbers from a position to the line's end, fewer than `most`: none where the line is not of the form
+unfoldable pub numbersFrom : ℕ → List ℕ → ℕ → Option (List ℕ)
+numbersFrom zero line position = none
+numbersFrom (suc most) line position = cond (eqb position (length line)) (some []) (andThen (spacedNumber line position) (numbersFrom most line))
+
+-- "S: P, D, two standards, HC+NOx kind and factor, CO kind and factor."
+abbrev pub setupFrom : List ℕ → Setup
+setupFrom vs =
+    record {
+      volume = getD vs 0 0;
+      days = getD vs 1 0;
+      standards = record { hcnox = getD vs 2 0; co = getD vs 3 0 };
+      factors =
+          record {
+            hcnox = record { kind = getD vs 4 0; value = getD vs 5 0 };
+            co = record { kind = getD vs 6 0; value = getD vs 7 0 };
+          };
+    }
+
+-- "E: engine number, its HC+NOx readings, as many CO readings."
+abbrev pub engineFrom : List ℕ → Call
+engineFrom vs =
+    Enter (EnterEngine (getD vs 0 0) (record { hcnox = take (length vs / 2) (drop 1 vs); co = drop (length vs / 2) (drop 1 vs) }))
+
+-- "A: two standards."
+abbrev pub amendmentFrom : List ℕ → Call
+amendmentFrom vs = Enter (Amend (record { hcnox = getD vs 0 0; co = getD vs 1 0 }))
+
+-- a call, if the line has so many numbers
+abbrev pub ofCount : ℕ → List ℕ → Call → Option Call
+ofCount count vs call = cond (eqb (length vs) count) (some call) none
+
+-- "An odd count of readings is refused by 2, an even count that is none or more than six by 11", which the call itself does: with the engine's number an even
+-- count of readings makes an odd count of numbers
+abbrev pub ofPairs : List ℕ → Call → Option Call
+ofPairs vs call = cond (eqb (length vs % 2) 1) (some call) none
+
+-- the call of a letter and its numbers. "P next period, X declaration, L strip: no numbers". L lends an output for forty engines
+unfoldable pub callOf : ℕ → List ℕ → Option Call
+callOf letter vs =
+    cond (eqb letter (byte "S")) (ofCount 8 vs (SetUp (setupFrom vs)))
+    (cond (eqb letter (byte "E")) (ofPairs vs (engineFrom vs))
+    (cond (eqb letter (byte "A")) (ofCount 2 vs (amendmentFrom vs))
+    (cond (eqb letter (byte "P")) (ofCount 0 vs (Enter BeginPeriod))
+    (cond (eqb letter (byte "X")) (ofCount 0 vs (Enter Declare))
+    (cond (eqb letter (byte "L")) (ofCount 0 vs (WriteMarks 80)) none)))))
+
+-- what a line asks for: a call, or to be refused by 1 or 2
+pub data Command : Type 0 where
+  Make : Call → Command
+  Refuse : ℕ → Command
+
+-- "2. The key line is not of the form above."
+abbrev pub asked : Option Call → Command
+asked (some call) = Make call
+asked none = Refuse 2
+
+abbrev pub callFrom : ℕ → Option (List ℕ) → Option Call
+callFrom letter (some vs) = callOf letter vs
+callFrom letter none = none
+
+-- "1. The key line is longer than 64 bytes". A number takes two bytes or more, so there are fewer numbers than the line has bytes
+unfoldable pub commandOf : List ℕ → Command
+commandOf line = cond (ltb 64 (length line)) (Refuse 1) (asked (callFrom (getD line 0 0) (numbersFrom (length line) line 1)))

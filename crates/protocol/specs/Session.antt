@@ -1,0 +1,67 @@
+-- Lines on a journal that is all zero at the start, beside the reference model (document 01, "The plain year of a list of calls") fed by the lines' calls.
+-- Assumes nothing.
+use mathlib.Core.Path.{_≡_}
+use mathlib.Core.Bool.{cond}
+use mathlib.Core.List.{List, [], _∷_, reverse}
+use Prim.Native.Nat.{ℕ}
+use lib.Dec.{eqb}
+use Rattle.buffers.specs.Bytes.{zeros}
+use Rattle.year.specs.declared.Setup.{Setup}
+use Rattle.year.specs.declared.Event.{Event}
+use Rattle.year.specs.Model.{Model, Year}
+use Rattle.journal.specs.Encode.{encode}
+use Rattle.reference.specs.Call.{Call, SetUp, Enter, ReadStatus, WriteMarks}
+use Rattle.reference.specs.Refusals.{refusal}
+use Rattle.reference.specs.Answers.{statusOf, markBytes}
+use Rattle.reference.specs.Model.{stepModel, modelOf, journalOf}
+use Rattle.reference.specs.Stored.{Holds}
+use Rattle.protocol.specs.KeyLine.{Command, Make, Refuse, commandOf}
+use Rattle.protocol.specs.Reply.{refusalReply, marksReply, statusReply, journalAfterLine}
+use Rattle.protocol.specs.Run.{replies}
+
+-- the call that a line makes, in front of others; a line refused by 1 or 2 makes none
+abbrev pub andCall : Command → List Call → List Call
+andCall (Make call) calls = call ∷ calls
+andCall (Refuse number) calls = calls
+
+-- the calls that lines make, in the order of the lines
+abbrev pub callsOf : List (List ℕ) → List Call
+callsOf [] = []
+callsOf (line ∷ lines) = andCall (commandOf line) (callsOf lines)
+
+-- the journal after lines, each on what the last one left
+abbrev pub journalAfterLines : List ℕ → List (List ℕ) → List ℕ
+journalAfterLines journal [] = journal
+journalAfterLines journal (line ∷ lines) = journalAfterLines (journalAfterLine line journal) lines
+
+-- what the model replies to an accepted call that leaves it in this state: its marks to a marks call, its status to any other
+abbrev pub acceptedReply : Call → Model → List ℕ
+acceptedReply (SetUp s) model = statusReply (statusOf model)
+acceptedReply (Enter entry) model = statusReply (statusOf model)
+acceptedReply ReadStatus model = statusReply (statusOf model)
+acceptedReply (WriteMarks size) model = marksReply (markBytes model)
+
+-- "A call is refused if a refusal above applies to its arguments and this state, read in the book's place."
+abbrev pub modelReply : Command → Model → List ℕ
+modelReply (Make call) model =
+    cond (eqb (refusal 544 call model) 0) (acceptedReply call (stepModel call model)) (refusalReply (refusal 544 call model))
+modelReply (Refuse number) model = refusalReply number
+
+-- the model's replies to lines, after the calls of earlier lines, of which the newest comes first
+abbrev pub modelReplies : List Call → List (List ℕ) → List (List ℕ)
+modelReplies calls [] = []
+modelReplies calls (line ∷ lines) = modelReply (commandOf line) (modelOf calls) ∷ modelReplies (andCall (commandOf line) calls) lines
+
+module _ (lines : List (List ℕ)) where
+  abbrev newestFirst : List Call
+  newestFirst = reverse (callsOf lines)
+
+  -- lines on a journal of 544 zeros
+  pub record Session : Type 0 where
+    -- the replies are those of the model
+    pub replied : replies (zeros 544) lines ≡ modelReplies [] lines
+    -- the journal is that of the lines' calls, and it is read as the model
+    pub calls : journalAfterLines (zeros 544) lines ≡ journalOf newestFirst
+    pub readsBack : Holds (journalAfterLines (zeros 544) lines) (modelOf newestFirst)
+    -- so once a setup was accepted every byte of it is the model's
+    pub stored : (s : Setup) (es : List Event) → modelOf newestFirst ≡ Year s es → journalAfterLines (zeros 544) lines ≡ encode s es

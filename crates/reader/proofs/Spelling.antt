@@ -1,0 +1,71 @@
+-- The digits at a position of a line, one at a time, and the number that they spell.
+-- Assumes nothing.
+use mathlib.Core.Path.{_≡_, refl}
+use mathlib.Core.Bool.{Bool, true, false, not, _||_, and-eq-true-iff}
+use mathlib.Core.List.{List}
+use Prim.Native.Nat.{ℕ, suc, _+_, _-_, _*_, _^_, _≤_, _<_}
+use native.Mathlib.Decide.{decLt}
+use native.Mathlib.Nat.{pow-suc, pow-le-pow-right}
+use native.Mathlib.Numerals.{add-one}
+use native.Mathlib.Omega.{arith}
+use lib.Dec.{lit<, leb, eqb}
+use lib.ListN.{length, take, drop, getD, drop-of-length-le}
+use lib.Seq.{drop-cons}
+use borrow.Author.Tests.{leb-true}
+use Rattle.buffers.specs.Numbers.{within}
+use Rattle.protocol.specs.Number.{isDigit, digits, spelt, isNumber}
+
+within-true : (low high x : ℕ) → within low high x ≡ true → (low ≤ x) × (x ≤ high)
+within-true low high x e =
+    let p = and-eq-true-iff (leb low x) (leb x high) .0 e in
+    (leb-true low x (p .0), leb-true x high (p .1))
+
+-- a digit's byte
+pub digit-bounds : (b : ℕ) → isDigit b ≡ true → (48 ≤ b) × (b ≤ 57)
+digit-bounds b e = within-true 48 57 b e
+
+module _ (line : List ℕ) (i : ℕ) where
+  pub digits-past : length line ≤ i → digits (drop i line) ≡ 0
+  unfolding digits
+  digits-past h = rw (drop-of-length-le line h)
+
+  pub digits-stop : i < length line → isDigit (getD line i 0) ≡ false → digits (drop i line) ≡ 0
+  unfolding digits
+  digits-stop h e = rw (drop-cons line i 0, e)
+
+  pub digits-step : i < length line → isDigit (getD line i 0) ≡ true → digits (drop i line) ≡ suc (digits (drop (i + 1) line))
+  unfolding digits
+  digits-step h e = rw (add-one, drop-cons line i 0, e)
+
+  -- where there are digits, the first stands in the line
+  pub digits-here : 0 < digits (drop i line) → (i < length line) × (isDigit (getD line i 0) ≡ true)
+  digits-here h = by (decLt i (length line))
+    where
+      test : i < length line → (b : Bool) → isDigit (getD line i 0) ≡ b → isDigit (getD line i 0) ≡ true
+      test l true e = e
+      test l false e = absurd (omega (arith, digits-stop l e))
+
+      by : Dec (i < length line) → (i < length line) × (isDigit (getD line i 0) ≡ true)
+      by (yes l) = (l, test l (isDigit (getD line i 0)) refl)
+      by (no f) = absurd (omega (arith, digits-past (omega arith)))
+
+  pub spelt-step : (end v : ℕ) → i < end → i < length line
+      → spelt v (take (end - i) (drop i line)) ≡ spelt (v * 10 + (getD line i 0 - 48)) (take (end - (i + 1)) (drop (i + 1) line))
+  unfolding spelt
+  spelt-step end v h inside =
+      let n : end - i ≡ suc (end - (i + 1)) = omega arith in
+      rw (n, add-one, drop-cons line i 0)
+
+-- one digit more: the value stays below the next power of ten
+pub below-next : (v count digit : ℕ) → v < 10 ^ count → digit ≤ 9 → v * 10 + digit < 10 ^ (count + 1)
+below-next v count digit h few = rw (add-one, pow-suc) (omega arith)
+
+-- the value of fewer than eight digits leaves room for one more
+pub room : (v count : ℕ) → v < 10 ^ count → count < 8 → v < 10000000
+room v count h few = omega (arith, pow-le-pow-right {n = 10} (lit< tt) {i = count} {j = 7} (omega arith))
+
+-- a number has one to eight digits
+pub number-size : (line : List ℕ) (at count : ℕ) → isNumber line at count ≡ true → (1 ≤ count) × (count ≤ 8)
+unfolding isNumber
+number-size line at count e =
+    within-true 1 8 count (and-eq-true-iff (within 1 8 count) (eqb count 1 || not (eqb (getD line at 0) 48)) .0 e .0)

@@ -1,0 +1,20 @@
+// The line that is being keyed, as its bytes come.
+ghost use mathlib.Core.Path.{_≡_};
+ghost use Prim.Native.Nat.{_≤_};
+ghost use lib.ListN.{length, take};
+ghost use Rattle.protocol.specs.Console.{held, bufferWith};
+
+// The next byte of a line of which `count` bytes are held: how many are held then. A line over 64 bytes is refused, whatever its other bytes are, so none is held
+// after the 65th.
+pub fn hold(line: &mut [u8], count: usize, byte: u8) -> usize
+    requires { ⌜ length (now line) ≡ 65 ⌝ }
+    ensures { λ r. ⌜ take r (now (line .exit)) ≡ held (take count (now (line .entry))) byte ⌝ }
+    ensures { λ _. ⌜ now (line .exit) ≡ bufferWith (now (line .entry)) count byte ⌝ }
+    ensures { λ r. ⌜ r ≤ 65 ⌝ }
+{
+    if 65 <= count {
+        return 65;
+    }
+    line[count] = byte;
+    count + 1
+}

@@ -1,0 +1,39 @@
+-- Text put after text, and the marks as a reply.
+-- Assumes nothing.
+use mathlib.Core.Path.{_≡_, refl, _∙_}
+use mathlib.Core.List.{List, [], _∷_, _++_}
+use Prim.Native.Nat.{ℕ, zero, suc, _+_, _≤_, _<_}
+use native.Mathlib.Omega.{arith}
+use lib.ListN.{length, length-append}
+use Rattle.buffers.specs.Bytes.{put}
+use Rattle.buffers.specs.Text.{text}
+use Rattle.buffers.proofs.Lists.{put-put, put-none, put-front}
+use Rattle.protocol.specs.Reply.{marksReply}
+use Rattle.replies.specs.Written.{Written, Replied, marksFront}
+
+-- text after text is the two as one; and at the front of an output
+pub then : {before after last xs ys : List ℕ} {place middle end : ℕ} → Written before place xs after middle → Written after middle ys last end
+    → place ≤ length before → Written before place (xs ++ ys) last end
+then {before} {after} {last} {xs} {ys} {place} {middle} {end} v w h =
+    record {
+      out = w .out ∙ rw (v .out, v .position) (put-put before place xs ys h);
+      position = omega (arith, v .position, w .position, length-append xs ys);
+    }
+
+pub then-front : {before after last xs ys : List ℕ} {middle end : ℕ} → Written before 0 xs after middle → Written after middle ys last end
+    → Written before 0 (xs ++ ys) last end
+then-front v w = then v w (omega arith)
+
+-- text at the front is a reply
+pub replied : {before bytes after : List ℕ} {end : ℕ} → Written before 0 bytes after end → end < 96 → Replied before bytes after end
+replied w h = record { out = w .out; size = omega (arith, w .position); fits = h }
+
+pub front-some : (n : ℕ) → (n ≡ 0 → ⊥) → marksFront n ≡ text "OK "
+front-some zero h = absurd (h refl)
+front-some (suc n) h = refl
+
+-- marks three bytes from the front, and what stands in front of them put after them, are the reply with the marks
+pub marks-replied : (before marks : List ℕ) → 96 ≤ length before → length marks ≤ 80
+    → Replied before (marksReply marks) (put (put before 3 marks) 0 (marksFront (length marks))) (length (marksFront (length marks)) + length marks)
+marks-replied before [] h k = record { out = rw (put-none before 3); size = refl; fits = omega arith }
+marks-replied before (m ∷ ms) h k = record { out = put-front before (text "OK ") (m ∷ ms) (omega arith); size = omega arith; fits = omega arith }
