@@ -6,9 +6,10 @@ use mathlib.Core.List.{List, [], _∷_, _++_}
 use Prim.Native.Nat.{ℕ, _+_, min, _≤_, _<_}
 use native.Mathlib.Omega.{arith}
 use lib.Dec.{leb}
-use lib.ListN.{length, take, set, length-append}
+use lib.ListN.{length, take, set, length-append, length-set}
 use lib.Seq.{take-all}
 use borrow.Author.Tests.{leb-true, leb-false}
+use Rattle.io.proofs.Counting.{counts}
 use Rattle.buffers.specs.Bytes.{put}
 use Rattle.buffers.specs.Text.{byte}
 use Rattle.buffers.proofs.Lists.{put-one, put-none, put-put, length-put}
@@ -29,7 +30,7 @@ held-front buffer held = by (leb (length buffer) held) refl
 
 -- nothing is shown
 pub nothing-shown : (out : List ℕ) → Shown [] out out 0
-nothing-shown out = record { out = sym (put-none out 0); size = refl; fits = omega arith }
+nothing-shown out = record { out = sym (put-none out 0); size = refl; fits = counts 0 out (omega arith) }
 
 -- a reply, and a newline after it
 pub with-newline : (reply out after : List ℕ) (r : ℕ) → 96 ≤ length out → Replied out reply after r → Shown (reply ++ (byte "\n" ∷ [])) out (set after r 10) (r + 1)
@@ -39,7 +40,7 @@ with-newline reply out after r room w =
     record {
       out = put-one after r 10 (omega (arith, size, w .fits)) ∙ rw (w .out, ← end) (put-put out 0 reply (10 ∷ []) (omega arith));
       size = omega (arith, w .size, length-append reply (10 ∷ []));
-      fits = omega (arith, w .fits);
+      fits = counts (r + 1) (set after r 10) (omega (arith, length-set after r 10, size, w .fits));
     }
 
 -- at the end of the input a line of some bytes is answered

@@ -2,12 +2,13 @@
 -- Assumes nothing.
 use mathlib.Core.Path.{_≡_}
 use mathlib.Core.List.{List}
-use Prim.Native.Nat.{ℕ, _≤_}
+use Prim.Native.Nat.{ℕ}
 use lib.ListN.{length}
+use Rattle.io.specs.Counts.{Counts}
 use Rattle.buffers.specs.Bytes.{put}
 
--- bytes to be printed stand at the front of the output, and are so many
+-- bytes to be printed stand at the front of the output, and are so many; the output has room for them
 pub record Shown (bytes before after : List ℕ) (count : ℕ) : Type 0 where
   pub out : after ≡ put before 0 bytes
   pub size : count ≡ length bytes
-  pub fits : count ≤ 96
+  pub fits : Counts count after
