@@ -1,0 +1,124 @@
+#!/usr/bin/env python3
+"""What no contract can say of the calculator: that it answers each line as soon as its newline comes, whatever pieces the input comes in, and ends quietly.
+
+    python3 tests/terminal.py target/bin/calculator
+
+Run from the repository's root. It prints a line for each thing tried, and fails at the first that does not hold.
+"""
+import os
+import random
+import select
+import subprocess
+import sys
+import threading
+
+SECONDS = 20
+
+
+def stored(run):
+    with open('crates/%s/stdin' % run, 'rb') as stdin, open('crates/%s/stdout' % run, 'rb') as stdout:
+        return stdin.read(), stdout.read()
+
+
+def start(*words, **more):
+    return subprocess.Popen(words, stderr=subprocess.PIPE, **more)
+
+
+def ended(child):
+    """Its exit status, once it has ended by itself; it said nothing."""
+    status = child.wait(SECONDS)
+    assert child.stderr.read() == b''
+    child.stderr.close()
+    return status
+
+
+def at_once(program):
+    """A person keys a line, and sees the reply before the next."""
+    given, wanted = stored('calculator')
+    child = start(program, stdin=subprocess.PIPE, stdout=subprocess.PIPE)
+    for line, reply in zip(given.splitlines(True), wanted.splitlines(True)):
+        os.write(child.stdin.fileno(), line)
+        got = b''
+        while not got.endswith(b'\n'):
+            assert select.select([child.stdout], [], [], SECONDS)[0], 'no reply to %r' % line
+            got += os.read(child.stdout.fileno(), 4096)
+        assert got == reply, (line, got, reply)
+    child.stdin.close()
+    assert child.stdout.read() == b'' and ended(child) == 0
+    child.stdout.close()
+
+
+def in_pieces(program, run, sizes):
+    """Each piece is read by itself: the pipe keeps them apart."""
+    given, wanted = stored(run)
+    rng = random.Random(run)
+    reader, writer = os.pipe2(os.O_DIRECT)
+    child = start(program, stdin=reader, stdout=subprocess.PIPE)
+    os.close(reader)
+
+    def feed():
+        at = 0
+        while at < len(given):
+            at += os.write(writer, given[at:at + rng.choice(sizes)])
+        os.close(writer)
+
+    feeder = threading.Thread(target=feed)
+    feeder.start()
+    got = child.stdout.read()
+    child.stdout.close()
+    feeder.join()
+    assert got == wanted and ended(child) == 0
+
+
+def output_closed(program, ignored):
+    """Nobody reads the output: it ends though the input goes on, by the signal or, where that is ignored, by itself."""
+    reader, writer = os.pipe()
+    child = start(program, stdin=subprocess.PIPE, stdout=writer, restore_signals=not ignored)
+    os.close(reader)
+    os.close(writer)
+    os.write(child.stdin.fileno(), b'L\nL\n')
+    status = ended(child)
+    assert status == 0 if ignored else status < 0, status
+    child.stdin.close()
+
+
+def long_line(program, size):
+    """A line far longer than the memory that it is dropped in; the next is answered."""
+    child = start(program, stdin=subprocess.PIPE, stdout=subprocess.PIPE)
+    child.stdin.write(b'7' * size + b'\nL\n')
+    child.stdin.close()
+    got = child.stdout.read()
+    child.stdout.close()
+    assert child.stderr.read() == b''
+    child.stderr.close()
+    _, status, used = os.wait4(child.pid, 0)
+    child.returncode = status
+    assert status == 0 and got == b'NO 1\nNO 7\n' and used.ru_maxrss * 1024 < size, (status, got, used.ru_maxrss)
+
+
+def no_input(program):
+    """Standard input that is closed, or cannot be read, ends like one that is empty."""
+    for stdin in ('<&-', '</'):
+        child = start('/bin/sh', '-c', 'exec "$0" ' + stdin, program, stdout=subprocess.PIPE)
+        assert child.communicate(timeout=SECONDS) == (b'', b'') and child.returncode == 0
+
+
+def main():
+    program = os.path.abspath(sys.argv[1])
+    tried = [
+        ('each line answered before the next comes', lambda: at_once(program)),
+        ('one byte at a time', lambda: in_pieces(program, 'run_declared', (1,))),
+        ('pieces of every size', lambda: in_pieces(program, 'run_lines', (1, 2, 3, 5, 63, 64, 65, 66, 130, 1000, 4095, 4096))),
+        ('many years in pieces', lambda: in_pieces(program, 'run_sessions', (1, 7, 20, 29, 64, 500, 4096))),
+        ('output closed', lambda: output_closed(program, False)),
+        ('output closed, the signal ignored', lambda: output_closed(program, True)),
+        ('a line of 16 million bytes', lambda: long_line(program, 16000000)),
+        ('no input', lambda: no_input(program)),
+    ]
+    for title, attempt in tried:
+        attempt()
+        print('terminal: %s: ok' % title, flush=True)
+
+
+if __name__ == '__main__':
+    main()
