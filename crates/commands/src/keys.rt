@@ -41,6 +41,7 @@ fn key_on(
     requires { ⌜ (length (now buffer) ≡ 65) × (96 ≤ length (now out)) ⌝ }
     ensures { λ r. ⌜ Shown (shownAt byte (take (now (held .entry)) (now (buffer .entry))) (now (journal .entry))) (now (out .entry)) (now (out .exit)) r ⌝ }
     ensures { λ _. ⌜ take (now (held .exit)) (now (buffer .exit)) ≡ heldAt byte (take (now (held .entry)) (now (buffer .entry))) ⌝ }
+    ensures { λ _. ⌜ now (held .exit) ≡ length (heldAt byte (take (now (held .entry)) (now (buffer .entry)))) ⌝ }
     ensures { λ _. ⌜ now (buffer .exit) ≡ bufferAt byte (now (buffer .entry)) (now (held .entry)) ⌝ }
     ensures { λ _. ⌜ now (journal .exit) ≡ journalAt byte (take (now (held .entry)) (now (buffer .entry))) (now (journal .entry)) ⌝ }
 {
@@ -62,6 +63,7 @@ pub fn key(
 ) -> usize
     ensures { λ r. ⌜ Shown (shownAt byte (take (now (held .entry)) (now (buffer .entry))) (now (journal .entry))) (now (out .entry)) (now (out .exit)) r ⌝ }
     ensures { λ _. ⌜ take (now (held .exit)) (now (buffer .exit)) ≡ heldAt byte (take (now (held .entry)) (now (buffer .entry))) ⌝ }
+    ensures { λ _. ⌜ now (held .exit) ≡ length (heldAt byte (take (now (held .entry)) (now (buffer .entry)))) ⌝ }
     ensures { λ _. ⌜ now (buffer .exit) ≡ bufferAt byte (now (buffer .entry)) (now (held .entry)) ⌝ }
     ensures { λ _. ⌜ now (journal .exit) ≡ journalAt byte (take (now (held .entry)) (now (buffer .entry))) (now (journal .entry)) ⌝ }
 {

@@ -1,6 +1,5 @@
 // The line that is being keyed, as its bytes come.
 ghost use mathlib.Core.Path.{_≡_};
-ghost use Prim.Native.Nat.{_≤_};
 ghost use lib.ListN.{length, take};
 ghost use Rattle.protocol.specs.Console.{held, bufferWith};
 
@@ -10,7 +9,7 @@ pub fn hold(line: &mut [u8], count: usize, byte: u8) -> usize
     requires { ⌜ length (now line) ≡ 65 ⌝ }
     ensures { λ r. ⌜ take r (now (line .exit)) ≡ held (take count (now (line .entry))) byte ⌝ }
     ensures { λ _. ⌜ now (line .exit) ≡ bufferWith (now (line .entry)) count byte ⌝ }
-    ensures { λ r. ⌜ r ≤ 65 ⌝ }
+    ensures { λ r. ⌜ r ≡ length (held (take count (now (line .entry))) byte) ⌝ }
 {
     if 65 <= count {
         return 65;

@@ -1,5 +1,8 @@
 -- `reply_any` meets its contract. Assumes nothing.
 use mathlib.Core.Path.{refl}
+use Prim.Native.Nat.{_<_}
+use native.Mathlib.Omega.{arith}
+use lib.ListN.{length}
 use Rattle.commands.proofs.Lines.{by-line, long-line, empty-line}
 use borrow.Author.Needs.{needs}
 use Rattle.commands.proofs.reply_any.Statement.{statement}
@@ -14,7 +17,8 @@ same-length c = search needs
 returns : tie.Need-returns
 returns c =
     let a = c .before .before .before .before .before .before .before .before .args in
-    by-line (a .line .now) (a .journal .now) (a .out .now) _ _ _ _ (long-line (a .line .now) (c .before .before .before .before .if1 .taken)) (c .before .before .write-refusal .ensures, refl)
+    let long : 64 < length (a .line .now) = omega (arith, c .before .before .before .before .if1 .taken) in
+    by-line (a .line .now) (a .journal .now) (a .out .now) _ _ _ _ (long-line (a .line .now) long) (c .before .before .write-refusal .ensures, refl)
 
 write-refusal-requires-2 : tie.Need-write-refusal-requires-2
 write-refusal-requires-2 c κs = search needs

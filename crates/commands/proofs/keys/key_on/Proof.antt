@@ -16,7 +16,7 @@ returns : tie.Need-returns
 returns c =
     let a = c .before .before .before .before .before .before .before .before .before .args in
     let e = c .before .before .hold .ensures in
-    rw (ne-eqb (a .byte) 10 (c .before .before .before .before .before .if1 .taken)) (nothing-shown (a .out .now), (e .0, (e .1 .0, refl)))
+    rw (ne-eqb (a .byte) 10 (c .before .before .before .before .before .if1 .taken)) (nothing-shown (a .out .now), (e .0, (e .1 .1, (e .1 .0, refl))))
 
 answer-requires : tie.Need-answer-requires
 answer-requires c κs = search needs
@@ -33,7 +33,7 @@ same-length-4 c = search needs
 returns-2 : tie.Need-returns-2
 returns-2 c =
     let e = c .before .before .before .before .answer .ensures in
-    rw (c .before .before .before .before .before .before .before .before .before .if1 .left) (e .0, (refl, (refl, e .1)))
+    rw (c .before .before .before .before .before .before .before .before .before .if1 .left) (e .0, (refl, (refl, (refl, e .1))))
 
 pub key-on-spec : {M : Type 1} → statement M
 key-on-spec =
