@@ -2,4 +2,3 @@ pub mod Parts
 pub mod Listing
 pub mod Made
 pub mod Lines
-pub mod Keying

@@ -8,13 +8,15 @@ use Prim.Native.Nat.{ℕ, _≤_, _<_}
 use native.Mathlib.Omega.{arith}
 use lib.ListN.{length, getD, take}
 use borrow.Author.Tests.{le-ltb, lt-ltb}
+use Rattle.buffers.specs.Bytes.{put}
+use Rattle.buffers.proofs.Lists.{length-put}
 use Rattle.protocol.specs.KeyLine.{Command, Refuse, asked, numbersFrom, callOf, callFrom, commandOf}
 use Rattle.protocol.specs.Reply.{refusalReply, replyTo, journalAfterLine}
-use Rattle.reader.specs.declared.numbers.Numbers.{Numbers}
-use Rattle.reader.specs.declared.numbers.Numbers.the-variants.{Count, Refused}
-use Rattle.reader.specs.declared.request.Request.{Request}
-use Rattle.reader.specs.Numbers.{counted, countOf, listed}
-use Rattle.reader.specs.Request.{commandFrom, Asks}
+use Rattle.requests.specs.declared.numbers.Numbers.{Numbers}
+use Rattle.requests.specs.declared.numbers.Numbers.the-variants.{Count, Refused}
+use Rattle.requests.specs.declared.request.Request.{Request}
+use Rattle.requests.specs.Numbers.{counted, countOf, listed}
+use Rattle.requests.specs.Request.{commandFrom, Asks}
 use Rattle.replies.specs.Written.{Replied}
 use Rattle.commands.proofs.Made.{Done}
 
@@ -73,3 +75,10 @@ pub empty-line : (line : List ℕ) → length line ≡ 0 → Refuse 2 ≡ comman
 unfolding commandOf numbersFrom
 empty-line [] e = refl
 empty-line (b ∷ bs) e = absurd (omega (arith, e))
+
+-- a reply and the journal after it, in the words of the promise
+pub told : {bytes wanted out left after : List ℕ} {r : ℕ} → length out ≡ 96 → Replied out bytes after r × (left ≡ wanted)
+    → (r ≡ length bytes) × ((after ≡ put out 0 bytes) × ((left ≡ wanted) × ((r < 96) × (length after ≡ 96))))
+told {bytes} {wanted} {out} room (w, j) =
+    let size = ap length (w .out) ∙ length-put out 0 bytes (omega (arith, room, w .size, w .fits)) in
+    (w .size, (w .out, (j, (w .fits, size ∙ room))))

@@ -2,7 +2,7 @@
 ghost use mathlib.Core.Path.{_≡_};
 ghost use Prim.Native.Nat.{_≤_};
 ghost use lib.ListN.{length};
-ghost use Rattle.reader.specs.Request.{commandFrom, Enough};
+ghost use Rattle.requests.specs.Request.{commandFrom, Enough};
 ghost use Rattle.reference.specs.Answers.{journalAfter, answer};
 ghost use Rattle.reference.specs.Call.{WriteMarks};
 ghost use Rattle.replies.specs.Written.{Replied};
@@ -14,11 +14,11 @@ use calls::declare;
 use calls::enter_engine;
 use calls::set_up;
 use calls::write_marks;
-use reader::request::Request;
 use reference::Answer;
 use replies::reply::write_answer;
 use replies::reply::write_marks_front;
 use replies::reply::write_refusal;
+use requests::request::Request;
 
 // "E: engine number, its HC+NOx readings, as many CO readings."
 fn enter(journal: &mut [u8], values: &[u32]) -> Answer

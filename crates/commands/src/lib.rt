@@ -1,7 +1,6 @@
 // The key line on a lent journal: the call that a line asks for is made, and its reply is written. Nothing is asked of what is lent, and every byte of it is
 // promised.
 mod calling;
-pub mod keys;
 
 ghost use mathlib.Core.Path.{_≡_};
 ghost use Prim.Native.Nat.{_≤_, _<_};
@@ -10,10 +9,10 @@ ghost use Rattle.buffers.specs.Bytes.{put};
 ghost use Rattle.replies.specs.Written.{Replied};
 ghost use Rattle.protocol.specs.Reply.{replyTo, journalAfterLine};
 use crate::calling::make;
-use reader::numbers::Numbers;
-use reader::numbers::read_numbers;
-use reader::request::requested;
 use replies::reply::write_refusal;
+use requests::numbers::Numbers;
+use requests::numbers::read_numbers;
+use requests::request::requested;
 
 // A line of 1 to 64 bytes: its letter and its numbers are read, and make a call.
 fn reply_short(journal: &mut [u8], line: &[u8], out: &mut [u8]) -> usize
@@ -31,11 +30,13 @@ fn reply_short(journal: &mut [u8], line: &[u8], out: &mut [u8]) -> usize
     }
 }
 
-// A line of any length: one of more than 64 bytes is refused by 1, and an empty one has no letter.
-fn reply_any(journal: &mut [u8], line: &[u8], out: &mut [u8]) -> usize
-    requires { ⌜ 96 ≤ length (now out) ⌝ }
-    ensures { λ r. ⌜ Replied (now (out .entry)) (replyTo (now (line .entry)) (now (journal .entry))) (now (out .exit)) r ⌝ }
+// The reply to a line, at the front of the output, and how many bytes it has: always fewer than the output. A line of more than 64 bytes is refused by 1, and an
+// empty one, which has no letter, by 2.
+pub fn reply(journal: &mut [u8], line: &[u8], out: &mut [u8; 96]) -> usize
+    ensures { λ r. ⌜ r ≡ length (replyTo (now (line .entry)) (now (journal .entry))) ⌝ }
+    ensures { λ _. ⌜ now (out .exit) ≡ put (now (out .entry)) 0 (replyTo (now (line .entry)) (now (journal .entry))) ⌝ }
     ensures { λ _. ⌜ now (journal .exit) ≡ journalAfterLine (now (line .entry)) (now (journal .entry)) ⌝ }
+    ensures { λ r. ⌜ (r < 96) × (length (now (out .exit)) ≡ 96) ⌝ }
 {
     if 64 < line.len() {
         return write_refusal(1, out);
@@ -44,14 +45,4 @@ fn reply_any(journal: &mut [u8], line: &[u8], out: &mut [u8]) -> usize
         return write_refusal(2, out);
     }
     reply_short(journal, line, out)
-}
-
-// The reply to a line, at the front of the output, and how many bytes it has: always fewer than the output.
-pub fn reply(journal: &mut [u8], line: &[u8], out: &mut [u8; 96]) -> usize
-    ensures { λ r. ⌜ r ≡ length (replyTo (now (line .entry)) (now (journal .entry))) ⌝ }
-    ensures { λ _. ⌜ now (out .exit) ≡ put (now (out .entry)) 0 (replyTo (now (line .entry)) (now (journal .entry))) ⌝ }
-    ensures { λ _. ⌜ now (journal .exit) ≡ journalAfterLine (now (line .entry)) (now (journal .entry)) ⌝ }
-    ensures { λ r. ⌜ r < 96 ⌝ }
-{
-    reply_any(journal, line, out)
 }

@@ -11,6 +11,7 @@ use crate::entries::common_refusal;
 use crate::readings::counts_fit;
 use crate::readings::readings_fit;
 use crate::rows::row;
+use admission::number_in_range;
 use buffers::both;
 use buffers::either;
 use engines::lookup::is_tested;
@@ -18,7 +19,6 @@ use progress::Progress;
 use rounding::result_in_range;
 use rounding::result_of;
 use scan::Scanned;
-use verdicts::admissible::number_in_range;
 use year::Event;
 use year::Pair;
 

@@ -1,15 +1,12 @@
-// Reading the key line: the number at a position, the numbers of a line, and what a letter with its numbers asks for. Nothing here looks at a journal.
+// The reader of the key line: the number at a position.
 pub mod digits;
-pub mod holding;
-pub mod numbers;
-pub mod request;
 
 ghost use mathlib.Core.Path.{_≡_};
 ghost use Rattle.protocol.specs.Number.{numberAt};
 use crate::digits::number_at;
 use protocol::Number;
 
-// The reader of the key line: the line it was given, and the position of the next byte. The work is done by `number_at`, on the slice and the position.
+// The line that it was given, and the position of the next byte. The work is done by `number_at`, on the slice and the position.
 pub struct Reader<'a> {
     pub line: &'a [u8],
     pub at: usize,

@@ -1,8 +1,8 @@
 // The calculator at a terminal: key lines from standard input, replies to standard output. What a read brings and what a write takes no contract can say, so all
-// that matters is in `commands`: here each byte is fetched, handed to `key`, and what that shows is printed. (protocol, specs/Console: for every input, these
+// that matters is in `console`: here each byte is fetched, handed to `key`, and what that shows is printed. (protocol, specs/Console: for every input, these
 // steps print document 01's run.)
-use commands::keys::end_input;
-use commands::keys::key;
+use console::end_input;
+use console::key;
 use io::buffer;
 use io::count;
 use io::write_all;

@@ -1,4 +1,3 @@
-// What the progress of a year amounts to: its verdict, its status, and which events could be entered. The definitions are those of the crate year.
-pub mod admissible;
+// What the progress of a year amounts to: its verdict and its status. The definitions are those of the crate year.
 pub mod status;
 pub mod verdict;

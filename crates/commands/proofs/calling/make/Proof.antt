@@ -2,7 +2,7 @@
 use mathlib.Core.Path.{refl, ap}
 use Rattle.reference.specs.Call.{Amend, BeginPeriod, Declare, SetUp, Enter}
 use Rattle.protocol.specs.KeyLine.{engineFrom}
-use Rattle.reader.specs.Request.{commandFrom}
+use Rattle.requests.specs.Request.{commandFrom}
 use Rattle.commands.proofs.Made.{answered, listed, refused}
 use borrow.Author.Needs.{needs}
 use Rattle.commands.proofs.calling.make.Statement.{statement}

@@ -1,0 +1,77 @@
+// Whether an event could be entered.
+ghost use mathlib.Core.Path.{_≡_};
+ghost use Rattle.year.specs.Admissible.{numberInRange, resultsInRange, fits, admissible};
+ghost use Rattle.progress.specs.State.{shown, Consistent};
+use buffers::both;
+use buffers::either;
+use buffers::within;
+use engines::lookup::is_tested;
+use progress::Progress;
+use rounding::count_in_range;
+use rounding::result_in_range;
+use schedule::periods;
+use schedule::standards_in_range;
+use verdicts::verdict::closed;
+use verdicts::verdict::is_short;
+use year::Event;
+use year::Pair;
+
+pub fn number_in_range(number: u32) -> bool
+    ensures { λ r. ⌜ r ≡ numberInRange number ⌝ }
+{
+    within(1, 65535, number)
+}
+
+pub fn results_in_range(results: Pair) -> bool
+    ensures { λ r. ⌜ r ≡ resultsInRange results ⌝ }
+{
+    both(
+        result_in_range(results.hcnox as u64),
+        result_in_range(results.co as u64),
+    )
+}
+
+// An engine: its number is in range and new, its readings are 1 to 3, its results are in range, and there is a place for it.
+fn engine_fits(p: Progress, number: u32, readings: u32, results: Pair) -> bool
+    requires { ⌜ Consistent p ⌝ }
+    ensures { λ r. ⌜ r ≡ fits (shown p) (Event.Engine number readings results) ⌝ }
+{
+    let engines = p.engines;
+    let named = both(number_in_range(number), !is_tested(engines, number));
+    let read = both(named, count_in_range(readings));
+    both(both(read, results_in_range(results)), engines.count < 40)
+}
+
+// The next period: there is one, and the current one is not short.
+pub fn period_fits(p: Progress) -> bool
+    requires { ⌜ Consistent p ⌝ }
+    ensures { λ r. ⌜ r ≡ fits (shown p) Event.NextPeriod ⌝ }
+{
+    let last = periods(p.setup.volume, p.setup.days) <= p.period;
+    !either(last, is_short(p.current, p.period))
+}
+
+// What the event asks for by its kind.
+fn event_fits(p: Progress, e: Event) -> bool
+    requires { ⌜ Consistent p ⌝ }
+    ensures { λ r. ⌜ r ≡ fits (shown p) e ⌝ }
+{
+    match e {
+        Event::Engine {
+            number,
+            readings,
+            results,
+        } => engine_fits(p, number, readings, results),
+        Event::Amendment(standards) => standards_in_range(standards),
+        Event::NextPeriod => period_fits(p),
+        Event::Declaration => true,
+    }
+}
+
+// The event could be entered now.
+pub fn is_admissible(p: Progress, e: Event) -> bool
+    requires { ⌜ Consistent p ⌝ }
+    ensures { λ r. ⌜ r ≡ admissible (shown p) e ⌝ }
+{
+    both(both(!closed(p), p.stored < 64), event_fits(p, e))
+}

@@ -1,0 +1,64 @@
+// The input as it comes, byte by byte: a line is held until its newline, and then answered.
+ghost use mathlib.Core.Path.{_≡_};
+ghost use mathlib.Core.List.{[], _∷_, _++_};
+ghost use Prim.Native.Nat.{min};
+ghost use lib.ListN.{length, take};
+ghost use Rattle.buffers.specs.Text.{byte};
+ghost use Rattle.protocol.specs.Console.{shownAt, heldAt, bufferAt, journalAt, shownAtEnd, journalAtEnd};
+ghost use Rattle.protocol.specs.Reply.{replyTo, journalAfterLine};
+ghost use Rattle.console.specs.Keys.{Shown};
+use commands::reply;
+use requests::holding::hold;
+
+fn least(a: usize, b: usize) -> usize
+    ensures { λ r. ⌜ r ≡ min a b ⌝ }
+{
+    if a < b {
+        return a;
+    }
+    b
+}
+
+// The reply to the first bytes of a buffer as a line, and a newline.
+fn answer(journal: &mut [u8], buffer: &[u8], held: usize, out: &mut [u8; 96]) -> usize
+    ensures { λ r. ⌜ Shown (replyTo (take held (now (buffer .entry))) (now (journal .entry)) ++ (byte "\n" ∷ [])) (now (out .entry)) (now (out .exit)) r ⌝ }
+    ensures { λ _. ⌜ now (journal .exit) ≡ journalAfterLine (take held (now (buffer .entry))) (now (journal .entry)) ⌝ }
+{
+    let end = reply(journal, &buffer[..least(held, buffer.len())], out);
+    out[end] = b'\n';
+    end + 1
+}
+
+// A byte of the input, after those held of its line at the front of the buffer: how many bytes of the output are to be printed.
+pub fn key(
+    journal: &mut [u8],
+    buffer: &mut [u8; 65],
+    held: &mut usize,
+    byte: u8,
+    out: &mut [u8; 96],
+) -> usize
+    ensures { λ r. ⌜ Shown (shownAt byte (take (now (held .entry)) (now (buffer .entry))) (now (journal .entry))) (now (out .entry)) (now (out .exit)) r ⌝ }
+    ensures { λ _. ⌜ take (now (held .exit)) (now (buffer .exit)) ≡ heldAt byte (take (now (held .entry)) (now (buffer .entry))) ⌝ }
+    ensures { λ _. ⌜ now (held .exit) ≡ length (heldAt byte (take (now (held .entry)) (now (buffer .entry)))) ⌝ }
+    ensures { λ _. ⌜ now (buffer .exit) ≡ bufferAt byte (now (buffer .entry)) (now (held .entry)) ⌝ }
+    ensures { λ _. ⌜ now (journal .exit) ≡ journalAt byte (take (now (held .entry)) (now (buffer .entry))) (now (journal .entry)) ⌝ }
+{
+    if byte != b'\n' {
+        *held = hold(buffer, *held, byte);
+        return 0;
+    }
+    let end = answer(journal, buffer, *held, out);
+    *held = 0;
+    end
+}
+
+// The end of the input: what is held is a last line without newline, if any byte is.
+pub fn end_input(journal: &mut [u8], buffer: &[u8], held: usize, out: &mut [u8; 96]) -> usize
+    ensures { λ r. ⌜ Shown (shownAtEnd (take held (now (buffer .entry))) (now (journal .entry))) (now (out .entry)) (now (out .exit)) r ⌝ }
+    ensures { λ _. ⌜ now (journal .exit) ≡ journalAtEnd (take held (now (buffer .entry))) (now (journal .entry)) ⌝ }
+{
+    if least(held, buffer.len()) == 0 {
+        return 0;
+    }
+    answer(journal, buffer, held, out)
+}

@@ -1,0 +1,115 @@
+// From a letter and its numbers to a call: the second step, and the only one that could ever look at the journal.
+ghost use mathlib.Core.Path.{_≡_};
+ghost use mathlib.Core.Bool.{cond};
+ghost use lib.Dec.{eqb};
+ghost use lib.ListN.{length};
+ghost use Rattle.protocol.specs.KeyLine.{setupFrom, engineFrom, amendmentFrom, ofCount, ofPairs, callOf};
+ghost use Rattle.reference.specs.Call.{SetUp};
+ghost use Rattle.requests.specs.Request.{Asks};
+ghost use Rattle.requests.specs.declared.request.Request.the-variants.{Refuse};
+use rounding::Factor;
+use year::Factors;
+use year::Pair;
+use year::Setup;
+
+// The call that a line asks for. An engine's number and readings stay where they are, in the line's numbers.
+pub enum Request {
+    SetUp(Setup),
+    EnterEngine,
+    Amend(Pair),
+    BeginPeriod,
+    Declare,
+    WriteMarks,
+    Refuse(u8),
+}
+
+// "S: P, D, two standards, HC+NOx kind and factor, CO kind and factor."
+fn setup_from(values: &[u32]) -> Setup
+    requires { ⌜ length (now values) ≡ 8 ⌝ }
+    ensures { λ r. ⌜ r ≡ setupFrom (now (values .entry)) ⌝ }
+{
+    Setup {
+        volume: values[0],
+        days: values[1],
+        standards: Pair {
+            hcnox: values[2],
+            co: values[3],
+        },
+        factors: Factors {
+            hcnox: Factor {
+                kind: values[4],
+                value: values[5],
+            },
+            co: Factor {
+                kind: values[6],
+                value: values[7],
+            },
+        },
+    }
+}
+
+fn setup_request(values: &[u32]) -> Request
+    ensures { λ r. ⌜ Asks r (now (values .entry)) (ofCount 8 (now (values .entry)) (SetUp (setupFrom (now (values .entry))))) ⌝ }
+{
+    if values.len() != 8 {
+        return Request::Refuse(2);
+    }
+    Request::SetUp(setup_from(values))
+}
+
+// "An odd count of readings is refused by 2": with the engine's number, an even count of numbers. How many readings there are is for the call to judge.
+fn engine_request(values: &[u32]) -> Request
+    ensures { λ r. ⌜ Asks r (now (values .entry)) (ofPairs (now (values .entry)) (engineFrom (now (values .entry)))) ⌝ }
+{
+    if values.len() % 2 != 1 {
+        return Request::Refuse(2);
+    }
+    Request::EnterEngine
+}
+
+fn amendment_request(values: &[u32]) -> Request
+    ensures { λ r. ⌜ Asks r (now (values .entry)) (ofCount 2 (now (values .entry)) (amendmentFrom (now (values .entry)))) ⌝ }
+{
+    if values.len() != 2 {
+        return Request::Refuse(2);
+    }
+    Request::Amend(Pair {
+        hcnox: values[0],
+        co: values[1],
+    })
+}
+
+// A request that takes no numbers.
+fn bare_request(bare: Request, values: &[u32]) -> Request
+    ensures { λ r. ⌜ r ≡ cond (eqb (length (now (values .entry))) 0) bare (Refuse 2) ⌝ }
+{
+    if values.len() != 0 {
+        return Request::Refuse(2);
+    }
+    bare
+}
+
+// What a letter with its numbers asks for.
+pub fn requested(letter: u8, values: &[u32]) -> Request
+    ensures { λ r. ⌜ Asks r (now (values .entry)) (callOf letter (now (values .entry))) ⌝ }
+{
+    if letter == b'S' {
+        return setup_request(values);
+    }
+    if letter == b'E' {
+        return engine_request(values);
+    }
+    if letter == b'A' {
+        return amendment_request(values);
+    }
+    if letter == b'P' {
+        return bare_request(Request::BeginPeriod, values);
+    }
+    if letter == b'X' {
+        return bare_request(Request::Declare, values);
+    }
+    if letter == b'L' {
+        return bare_request(Request::WriteMarks, values);
+    }
+    Request::Refuse(2)
+}
