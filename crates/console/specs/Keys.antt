@@ -1,14 +1,22 @@
 -- What a key does to all that is lent for it, in the words of document 01's "Key line" as the input comes (protocol, specs/Console).
 -- Assumes nothing.
 use mathlib.Core.Path.{_≡_}
+use mathlib.Core.Bool.{cond}
 use mathlib.Core.List.{List}
 use Prim.Native.Nat.{ℕ}
+use lib.Dec.{eqb}
 use lib.ListN.{length}
 use Rattle.io.specs.Counts.{Counts}
 use Rattle.buffers.specs.Bytes.{put}
+use Rattle.buffers.specs.Text.{byte}
+use Rattle.requests.specs.Buffer.{bufferWith}
 
 -- bytes to be printed stand at the front of the output, and are so many; the output has room for them
 pub record Shown (bytes before after : List ℕ) (count : ℕ) : Type 0 where
   pub out : after ≡ put before 0 bytes
   pub size : count ≡ length bytes
   pub fits : Counts count after
+
+-- the buffer of the line after a byte of the input: a newline leaves it, as no byte is held then
+abbrev pub bufferAt : ℕ → List ℕ → ℕ → List ℕ
+bufferAt b buffer count = cond (eqb b (byte "\n")) buffer (bufferWith buffer count b)

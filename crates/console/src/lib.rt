@@ -4,9 +4,9 @@ ghost use mathlib.Core.List.{[], _∷_, _++_};
 ghost use Prim.Native.Nat.{min};
 ghost use lib.ListN.{length, take};
 ghost use Rattle.buffers.specs.Text.{byte};
-ghost use Rattle.protocol.specs.Console.{shownAt, heldAt, bufferAt, journalAt, shownAtEnd, journalAtEnd};
+ghost use Rattle.protocol.specs.Console.{shownAt, heldAt, journalAt, shownAtEnd, journalAtEnd};
 ghost use Rattle.protocol.specs.Reply.{replyTo, journalAfterLine};
-ghost use Rattle.console.specs.Keys.{Shown};
+ghost use Rattle.console.specs.Keys.{Shown, bufferAt};
 use commands::reply;
 use requests::holding::hold;
 

@@ -4,9 +4,9 @@ use mathlib.Core.Path.{_≡_}
 use mathlib.Core.Bool.{cond}
 use mathlib.Core.List.{List, [], _∷_, _++_}
 use Prim.Native.Nat.{ℕ}
-use lib.Dec.{eqb, ltb}
+use lib.Dec.{eqb}
 use lib.ListN.{take}
-use Rattle.buffers.specs.Bytes.{put, zeros}
+use Rattle.buffers.specs.Bytes.{zeros}
 use Rattle.buffers.specs.Text.{byte}
 use Rattle.protocol.specs.Reply.{replyTo, journalAfterLine}
 use Rattle.protocol.specs.Run.{run}
@@ -14,10 +14,6 @@ use Rattle.protocol.specs.Run.{run}
 -- a line and its next byte. "1. The key line is longer than 64 bytes; it is dropped up to its newline": the 65th byte tells that it is, and none is held after it
 abbrev pub held : List ℕ → ℕ → List ℕ
 held line b = take 65 (line ++ (b ∷ []))
-
--- the buffer in which the line's bytes are held, after one more
-abbrev pub bufferWith : List ℕ → ℕ → ℕ → List ℕ
-bufferWith buffer count b = cond (ltb count 65) (put buffer count (b ∷ [])) buffer
 
 -- a byte of the input, after the bytes held of its line: what is printed, what is then held, and the journal. A line is answered as soon as its newline comes
 abbrev pub shownAt : ℕ → List ℕ → List ℕ → List ℕ
@@ -28,9 +24,6 @@ heldAt b line = cond (eqb b (byte "\n")) [] (held line b)
 
 abbrev pub journalAt : ℕ → List ℕ → List ℕ → List ℕ
 journalAt b line journal = cond (eqb b (byte "\n")) (journalAfterLine line journal) journal
-
-abbrev pub bufferAt : ℕ → List ℕ → ℕ → List ℕ
-bufferAt b buffer count = cond (eqb b (byte "\n")) buffer (bufferWith buffer count b)
 
 -- the end of the input: "a newline, absent only at the end of the input"
 abbrev pub shownAtEnd : List ℕ → List ℕ → List ℕ
