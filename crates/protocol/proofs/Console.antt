@@ -13,8 +13,8 @@ use borrow.Author.Tests.{lt-ltb, leb-true, leb-false}
 use Rattle.buffers.specs.Text.{byte}
 use Rattle.protocol.specs.KeyLine.{Refuse, commandOf}
 use Rattle.protocol.specs.Reply.{replyTo, journalAfterLine}
-use Rattle.protocol.specs.Run.{before, linesOf, replies, printed}
-use Rattle.protocol.specs.Console.{held, shownAtEnd, output, Console}
+use Rattle.protocol.specs.Run.{before, linesOf, replies, journalAfterLines, printed}
+use Rattle.protocol.specs.Console.{held, journalAtEnd, output, heldAfter, journalPast, Console}
 
 -- a line of more than 64 bytes is refused by 1, whatever they are
 long : (line : List ℕ) → 64 < length line → commandOf line ≡ Refuse 1
@@ -75,27 +75,33 @@ onto-end : (start : List ℕ) (lines : List (List ℕ)) → onto start ([] ∷ l
 onto-end [] lines = refl
 onto-end (x ∷ xs) lines = ap (λ l. (x ∷ l) ∷ lines) (append-nil xs)
 
+-- what is printed and left of the rest of an input, after the start of a line, is that of the lines that it makes
+abbrev Goes : List ℕ → List ℕ → List ℕ → Type 0
+Goes input journal start =
+    (output journal (take 65 start) input ≡ printed (replies journal (onto start (linesOf input))))
+    × (journalAtEnd (heldAfter input (take 65 start)) (journalPast input (take 65 start) journal) ≡ journalAfterLines journal (onto start (linesOf input)))
+
 -- the input ends
-ended : (journal start : List ℕ) → shownAtEnd (take 65 start) journal ≡ printed (replies journal (onto start []))
-ended journal [] = refl
-ended journal (b ∷ bs) = ap (λ reply. reply ++ (byte "\n" ∷ [])) (same-reply (b ∷ bs) journal)
+ended : (journal start : List ℕ) → Goes [] journal start
+ended journal [] = (refl, refl)
+ended journal (b ∷ bs) = (ap (λ reply. reply ++ (byte "\n" ∷ [])) (same-reply (b ∷ bs) journal), same-journal (b ∷ bs) journal)
 
 -- one byte more, from what holds of the rest after it: the line ends, or it goes on
-one-byte : (b : ℕ) (bs journal start : List ℕ)
-    → output (journalAfterLine start journal) [] bs ≡ printed (replies (journalAfterLine start journal) (linesOf bs))
-    → output journal (take 65 (start ++ (b ∷ []))) bs ≡ printed (replies journal (onto (start ++ (b ∷ [])) (linesOf bs)))
-    → output journal (take 65 start) (b ∷ bs) ≡ printed (replies journal (onto start (linesOf (b ∷ bs))))
+one-byte : (b : ℕ) (bs journal start : List ℕ) → Goes bs (journalAfterLine start journal) [] → Goes bs journal (start ++ (b ∷ [])) → Goes (b ∷ bs) journal start
 one-byte b bs journal start next more = by (eqb b (byte "\n")) refl
   where
-    by : (newline : Bool) → eqb b (byte "\n") ≡ newline → output journal (take 65 start) (b ∷ bs) ≡ printed (replies journal (onto start (linesOf (b ∷ bs))))
-    by true e = rw (e, onto-end start (linesOf bs), same-reply start journal, same-journal start journal, next, append-assoc)
+    by : (newline : Bool) → eqb b (byte "\n") ≡ newline → Goes (b ∷ bs) journal start
+    by true e = (
+      rw (e, onto-end start (linesOf bs), same-reply start journal, same-journal start journal, next .0, append-assoc),
+      rw (e, onto-end start (linesOf bs), same-journal start journal) (next .1),
+    )
     by false e = rw (e, onto-byte start b (linesOf bs), held-more start b) more
 
 -- the rest of an input after the start of a line
-from-start : (input journal start : List ℕ) → output journal (take 65 start) input ≡ printed (replies journal (onto start (linesOf input)))
+from-start : (input journal start : List ℕ) → Goes input journal start
 from-start [] journal start = ended journal start
 from-start (b ∷ bs) journal start =
     one-byte b bs journal start (from-start bs (journalAfterLine start journal) []) (from-start bs journal (start ++ (b ∷ [])))
 
 pub console : Console
-console = record { whole = λ input. from-start input _ [] }
+console = record { whole = λ input. from-start input _ [] .0; stored = λ input. from-start input _ [] .1 }

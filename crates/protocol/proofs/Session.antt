@@ -19,8 +19,8 @@ use Rattle.reference.specs.Stored.{Holds}
 use Rattle.reference.proofs.Stored.{stored-calls}
 use Rattle.protocol.specs.KeyLine.{Command, Make, Refuse, commandOf}
 use Rattle.protocol.specs.Reply.{refusalReply, answerReply, callReply, commandReply, commandAfter, replyTo, journalAfterLine}
-use Rattle.protocol.specs.Run.{replies}
-use Rattle.protocol.specs.Session.{andCall, callsOf, journalAfterLines, acceptedReply, modelReply, modelReplies, Session}
+use Rattle.protocol.specs.Run.{replies, journalAfterLines}
+use Rattle.protocol.specs.Session.{andCall, callsOf, acceptedReply, modelReply, modelReplies, Session}
 
 -- one call on a journal that holds the model's state
 module _ (calls : List Call) where

@@ -2,6 +2,7 @@
 -- Assumes nothing.
 use mathlib.Core.Path.{_≡_}
 use mathlib.Core.List.{[], _∷_}
+use lib.ListN.{replicate}
 use Rattle.buffers.specs.Text.{text}
 use Rattle.statistics.specs.declared.SampleSize.{SampleSize}
 use Rattle.statistics.specs.declared.SampleSize.the-variants.{Tenths, Absent}
@@ -11,7 +12,7 @@ use Rattle.year.specs.declared.Figures.{Figures}
 use Rattle.year.specs.Cases.{pair, setupOf}
 use Rattle.reference.specs.Call.{EnterEngine, Amend, BeginPeriod, Declare, SetUp, Enter, WriteMarks}
 use Rattle.protocol.specs.KeyLine.{Make, Refuse, commandOf}
-use Rattle.protocol.specs.Reply.{refusalReply, marksReply, statusReply}
+use Rattle.protocol.specs.Reply.{decimal, refusalReply, marksReply, statusReply}
 use Rattle.protocol.specs.Run.{linesOf, run}
 
 -- figures of which a reply shows the mark and the sample size
@@ -34,12 +35,22 @@ pub record Cases : Type 0 where
   pub period : commandOf (text "P") ≡ Make (Enter BeginPeriod)
   pub declaration : commandOf (text "X") ≡ Make (Enter Declare)
   pub marks : commandOf (text "L") ≡ Make (WriteMarks 80)
+  -- each number of a setup in its place
+  pub setupNumbers : commandOf (text "S 1 2 3 4 5 6 7 8")
+      ≡ Make (SetUp (record {
+        volume = 1;
+        days = 2;
+        standards = pair 3 4;
+        factors = record { hcnox = record { kind = 5; value = 6 }; co = record { kind = 7; value = 8 } };
+      }))
   -- the HC+NOx readings come first
   pub fourReadings : commandOf (text "E 7 1 2 3 4") ≡ Make (Enter (EnterEngine 7 (record { hcnox = 1 ∷ 2 ∷ []; co = 3 ∷ 4 ∷ [] })))
-  -- an even count of readings is for the call to refuse, also none and eight; an odd count, and no engine number, is not of the form
+  -- an even count of readings is for the call to judge, also none and eight, and as many as a line holds; an odd count, and no engine number, is not of the form
   pub noReadings : commandOf (text "E 7") ≡ Make (Enter (EnterEngine 7 (record { hcnox = []; co = [] })))
   pub eightReadings : commandOf (text "E 7 1 1 1 1 2 2 2 2")
       ≡ Make (Enter (EnterEngine 7 (record { hcnox = 1 ∷ 1 ∷ 1 ∷ 1 ∷ []; co = 2 ∷ 2 ∷ 2 ∷ 2 ∷ [] })))
+  pub manyReadings : commandOf (text "E 1 2 2 2 2 2 2 2 2 2 2 2 2 2 2 2 3 3 3 3 3 3 3 3 3 3 3 3 3 3 3")
+      ≡ Make (Enter (EnterEngine 1 (record { hcnox = replicate 15 2; co = replicate 15 3 })))
   pub oddReadings : commandOf (text "E 7 1 2 3") ≡ Refuse 2
   pub noNumber : commandOf (text "E") ≡ Refuse 2
   -- 1 to 8 digits, no leading zero but in 0
@@ -52,10 +63,13 @@ pub record Cases : Type 0 where
   pub spaceAtEnd : commandOf (text "A 800 6100 ") ≡ Refuse 2
   pub noSpace : commandOf (text "A800 6100") ≡ Refuse 2
   pub tab : commandOf (text "A\t800 6100") ≡ Refuse 2
+  pub belowDigits : commandOf (text "A 80/ 6100") ≡ Refuse 2
+  pub aboveDigits : commandOf (text "A 80: 6100") ≡ Refuse 2
   pub otherByte : commandOf (text "A 800 6100x") ≡ Refuse 2
   pub otherCount : commandOf (text "A 800") ≡ Refuse 2
   pub numberAfterPeriod : commandOf (text "P 1") ≡ Refuse 2
   pub otherLetter : commandOf (text "T 1") ≡ Refuse 2
+  pub letterAlone : commandOf (text "T") ≡ Refuse 2
   pub smallLetter : commandOf (text "p") ≡ Refuse 2
   pub emptyLine : commandOf [] ≡ Refuse 2
   -- 64 bytes are read, 65 are not
@@ -65,7 +79,9 @@ pub record Cases : Type 0 where
   -- the newline may be missing at the end of the input, and only there
   pub twoLines : linesOf (text "P\nX") ≡ text "P" ∷ text "X" ∷ []
   pub threeLines : linesOf (text "P\n\nX\n") ≡ text "P" ∷ [] ∷ text "X" ∷ []
+  pub emptyLast : linesOf (text "P\n\n") ≡ text "P" ∷ [] ∷ []
   -- replies that the run lacks
+  pub fourDigits : decimal 1234 ≡ text "1234"
   pub refusedBy16 : refusalReply 16 ≡ text "NO 16"
   pub noMarks : marksReply [] ≡ text "OK"
   pub twoTested : statusReply (record { n = 2; verdict = 1; hcnox = marked Undecided (Tenths 30); co = marked Under Absent }) ≡ text "OK 2 1 ?U 30 -"

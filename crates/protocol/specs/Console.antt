@@ -9,7 +9,7 @@ use lib.ListN.{take}
 use Rattle.buffers.specs.Bytes.{zeros}
 use Rattle.buffers.specs.Text.{byte}
 use Rattle.protocol.specs.Reply.{replyTo, journalAfterLine}
-use Rattle.protocol.specs.Run.{run}
+use Rattle.protocol.specs.Run.{linesOf, journalAfterLines, run}
 
 -- a line and its next byte. "1. The key line is longer than 64 bytes; it is dropped up to its newline": the 65th byte tells that it is, and none is held after it
 abbrev pub held : List ℕ → ℕ → List ℕ
@@ -39,6 +39,16 @@ abbrev pub output : List ℕ → List ℕ → List ℕ → List ℕ
 output journal line [] = shownAtEnd line journal
 output journal line (b ∷ bs) = shownAt b line journal ++ output (journalAt b line journal) (heldAt b line) bs
 
--- of every input, that is the whole run
+-- the line that is held after some bytes of the input, and the journal after them
+abbrev pub heldAfter : List ℕ → List ℕ → List ℕ
+heldAfter [] line = line
+heldAfter (b ∷ bs) line = heldAfter bs (heldAt b line)
+
+abbrev pub journalPast : List ℕ → List ℕ → List ℕ → List ℕ
+journalPast [] line journal = journal
+journalPast (b ∷ bs) line journal = journalPast bs (heldAt b line) (journalAt b line journal)
+
+-- of every input, that is the whole run, and the journal is that after its lines
 pub record Console : Type 0 where
   pub whole : (input : List ℕ) → output (zeros 544) [] input ≡ run input
+  pub stored : (input : List ℕ) → journalAtEnd (heldAfter input []) (journalPast input [] (zeros 544)) ≡ journalAfterLines (zeros 544) (linesOf input)

@@ -58,8 +58,8 @@ amendmentFrom vs = Enter (Amend (record { hcnox = getD vs 0 0; co = getD vs 1 0 
 abbrev pub ofCount : ℕ → List ℕ → Call → Option Call
 ofCount count vs call = cond (eqb (length vs) count) (some call) none
 
--- "An odd count of readings is refused by 2, an even count that is none or more than six by 11", which the call itself does: with the engine's number an even
--- count of readings makes an odd count of numbers
+-- "An odd count of readings is refused by 2, an even count that is none or more than six by 11." The 11 is the call's own refusal. The 2 is given here: with the
+-- engine's number in front, an odd count of readings is an even count of numbers, and so is no number at all
 abbrev pub ofPairs : List ℕ → Call → Option Call
 ofPairs vs call = cond (eqb (length vs % 2) 1) (some call) none
 

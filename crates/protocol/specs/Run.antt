@@ -23,6 +23,11 @@ abbrev pub replies : List ℕ → List (List ℕ) → List (List ℕ)
 replies journal [] = []
 replies journal (line ∷ lines) = replyTo line journal ∷ replies (journalAfterLine line journal) lines
 
+-- the journal after lines, each on what the last one left
+abbrev pub journalAfterLines : List ℕ → List (List ℕ) → List ℕ
+journalAfterLines journal [] = journal
+journalAfterLines journal (line ∷ lines) = journalAfterLines (journalAfterLine line journal) lines
+
 -- each reply on a line of its own
 abbrev pub printed : List (List ℕ) → List ℕ
 printed [] = []

@@ -16,8 +16,8 @@ use Rattle.reference.specs.Answers.{statusOf, markBytes}
 use Rattle.reference.specs.Model.{stepModel, modelOf, journalOf}
 use Rattle.reference.specs.Stored.{Holds}
 use Rattle.protocol.specs.KeyLine.{Command, Make, Refuse, commandOf}
-use Rattle.protocol.specs.Reply.{refusalReply, marksReply, statusReply, journalAfterLine}
-use Rattle.protocol.specs.Run.{replies}
+use Rattle.protocol.specs.Reply.{refusalReply, marksReply, statusReply}
+use Rattle.protocol.specs.Run.{replies, journalAfterLines}
 
 -- the call that a line makes, in front of others; a line refused by 1 or 2 makes none
 abbrev pub andCall : Command → List Call → List Call
@@ -28,11 +28,6 @@ andCall (Refuse number) calls = calls
 abbrev pub callsOf : List (List ℕ) → List Call
 callsOf [] = []
 callsOf (line ∷ lines) = andCall (commandOf line) (callsOf lines)
-
--- the journal after lines, each on what the last one left
-abbrev pub journalAfterLines : List ℕ → List (List ℕ) → List ℕ
-journalAfterLines journal [] = journal
-journalAfterLines journal (line ∷ lines) = journalAfterLines (journalAfterLine line journal) lines
 
 -- what the model replies to an accepted call that leaves it in this state: its marks to a marks call, its status to any other
 abbrev pub acceptedReply : Call → Model → List ℕ

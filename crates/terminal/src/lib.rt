@@ -1,6 +1,10 @@
-// The calculator at a terminal: key lines from standard input, replies to standard output. What a read brings and what a write takes no contract can say, so all
-// that matters is in `console`: here each byte is fetched, handed to `key`, and what that shows is printed. (protocol, specs/Console: for every input, these
-// steps print document 01's run.)
+// The calculator at a terminal: key lines from standard input, replies to standard output. What a read brings and what a write takes no contract can say: here
+// each byte is fetched and handed to `console::key`, in order, and what that shows is printed. (protocol, specs/Console: for every input, these steps print
+// document 01's run.)
+ghost use mathlib.Core.Path.{_≡_};
+ghost use lib.ListN.{take};
+ghost use Rattle.protocol.specs.Console.{heldAt, journalAt};
+ghost use Rattle.terminal.specs.Taken.{Taken};
 use console::end_input;
 use console::key;
 use io::buffer;
@@ -18,18 +22,18 @@ enum Next {
 }
 
 // A byte of the input; whether what it shows was taken. A byte that ends no line shows nothing.
-fn take_byte(journal: &mut [u8; 544], line: &mut [u8; 65], held: &mut usize, byte: u8) -> bool {
+fn take_byte(journal: &mut [u8; 544], line: &mut [u8; 65], held: &mut usize, byte: u8) -> bool
+    ensures { λ _. ⌜ take (now (held .exit)) (now (line .exit)) ≡ heldAt byte (take (now (held .entry)) (now (line .entry))) ⌝ }
+    ensures { λ _. ⌜ now (journal .exit) ≡ journalAt byte (take (now (held .entry)) (now (line .entry))) (now (journal .entry)) ⌝ }
+{
     let mut out = [0u8; 96];
     let n = key(journal, line, held, byte, &mut out);
     write_all(STDOUT_FILENO, &out[..n])
 }
 
-fn take_bytes(
-    journal: &mut [u8; 544],
-    line: &mut [u8; 65],
-    held: &mut usize,
-    piece: &[u8],
-) -> Next {
+fn take_bytes(journal: &mut [u8; 544], line: &mut [u8; 65], held: &mut usize, piece: &[u8]) -> Next
+    ensures { λ r. ⌜ Taken r (now (piece .entry)) (take (now (held .entry)) (now (line .entry))) (now (journal .entry)) (take (now (held .exit)) (now (line .exit))) (now (journal .exit)) ⌝ }
+{
     let mut i: usize = 0;
     while i < piece.len() {
         if !take_byte(journal, line, held, piece[i]) {
