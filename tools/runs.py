@@ -102,13 +102,13 @@ MALFORMED = [
     b'A 800 6100x', b'a 800 6100', b'A 800 6100 A 800 6100', b'A 4294967296 6100', b'A 80/ 6100', b'A 80: 6100',
     b'S', b'S 5000', b'S 5000 365 800 6100 0 0 0', b'S 5000 365 800 6100 0 0 0 0 0', b'S 5000 365 800 6100 0 0 0 0 ', b's 5000 365 800 6100 0 0 0 0',
     b'S 05000 365 800 6100 0 0 0 0', b'S 100000000 365 800 6100 0 0 0 0', b'S 5000 365 800 6100 0 0 0 00', b'S 5000 365 800 6100 0 0  0 0',
-    b'E', b'E ', b'E 9 1', b'E 9 1 1 1', b'E 9 1 1 1 1 1', b'E 9 1 1 1 1 1 1 1', b'E 9 1 1 ', b'E 9 01 1', b'E 9 1 1\r', b'E 9 100000000 1', b'E 09 1 1', b'e 9 1 1',
+    b'E' + b' 1' * 2, b'E' + b' 1' * 18, b'E' + b' 1' * 30, b'A' + b' 1' * 31, b'E', b'E ', b'E 9 1', b'E 9 1 1 1', b'E 9 1 1 1 1 1', b'E 9 1 1 1 1 1 1 1', b'E 9 1 1 ', b'E 9 01 1', b'E 9 1 1\r', b'E 9 100000000 1', b'E 09 1 1', b'e 9 1 1',
     b'9', b'9 1 1', b'OK', b'NO 2', b'help', b'?', b'#', b'Q', b'T 9 1 1', b'Z', b'H 800', b'C 6100', b'M 5000 365 800 0 0', b'R 800',
 ]
 
 # Of the form, and refused by the call, before a setup or in the year below.
 REFUSED = [
-    b'E 9', b'E 9 1 1 1 1 1 1 1 1', b'E 9 0 0 0 0 0 0 0 0 0 0', b'E 0 1 1', b'E 65536 1 1', b'E 99999999 1 1', b'E 1 1 1', b'E 1', b'E 0',
+    b'E' + b' 9' * 17, b'E' + b' 9' * 19, b'E' + b' 9' * 31, b'E 9', b'E 9 1 1 1 1 1 1 1 1', b'E 9 0 0 0 0 0 0 0 0 0 0', b'E 0 1 1', b'E 65536 1 1', b'E 99999999 1 1', b'E 1 1 1', b'E 1', b'E 0',
     b'E 9 20000001 1', b'E 9 1 20000001', b'E 9 99999999 99999999', b'A 0 6100', b'A 800 6105', b'A 20010 6100', b'A 99999999 0',
     b'S 0 365 800 6100 0 0 0 0', b'S 5000 0 800 6100 0 0 0 0', b'S 5000 367 800 6100 0 0 0 0', b'S 5000 365 805 6100 0 0 0 0', b'S 5000 365 800 0 0 0 0 0',
     b'S 5000 365 800 6100 2 0 0 0', b'S 5000 365 800 6100 0 60001 0 0', b'S 5000 365 800 6100 0 0 1 999', b'S 0 0 805 6100 2 0 0 0',
@@ -127,7 +127,7 @@ def long_lines():
     yield bytes(i % 256 for i in range(100000) if i % 256 != 10)
 
 
-def bad_lines():
+def any_lines():
     """The whole input of run_lines."""
     every = [bytes([b]) for b in range(256) if b != 10]
     year = [SETUP, b'E 1 998000 5000000', b'E 2 1071000 5000000', b'E 3 998400 998600 5000499 5000501']
@@ -198,7 +198,7 @@ def main():
         label = os.path.basename(path)[:-4]
         with open(path, 'rb') as f:
             write('calculator' if label == 'year' else 'run_' + label, f.read(), met)
-    write('run_lines', bad_lines(), met)
+    write('run_lines', any_lines(), met)
     write('run_sessions', sessions(), met)
     write('run_empty', b'', met)
     for title, counts in zip(('letters accepted', 'refusals', 'verdicts', 'marks'), met):

@@ -10,6 +10,7 @@ ghost use Rattle.console.specs.Keys.{Shown, bufferAt};
 use commands::reply;
 use requests::holding::hold;
 
+// Of the bytes said to be held, those that the buffer has: nothing is asked of their number.
 fn least(a: usize, b: usize) -> usize
     ensures { λ r. ⌜ r ≡ min a b ⌝ }
 {

@@ -21,7 +21,7 @@ pub fn write_refusal(number: u8, out: &mut [u8]) -> usize
     put_number(number as u64, out, at)
 }
 
-// "OK", n, verdict, the two newest marks joined, N in tenths for each pollutant.
+// "OK", n, verdict, the two newest marks joined, N in tenths for each pollutant. (An enum that is a field is copied before it is passed on: only a local is covered.)
 pub fn write_status(s: Status, out: &mut [u8]) -> usize
     requires { ⌜ 96 ≤ length (now out) ⌝ }
     ensures { λ r. ⌜ Replied (now (out .entry)) (statusReply s) (now (out .exit)) r ⌝ }

@@ -1,4 +1,4 @@
--- What the reader gives for the numbers of a line (document 01, "Key line").
+-- What `read_numbers` gives for the numbers of a line (document 01, "Key line").
 -- Assumes nothing.
 use mathlib.Core.List.{List, []}
 use mathlib.Core.Option.{Option, some, none}

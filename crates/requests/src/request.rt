@@ -1,4 +1,4 @@
-// From a letter and its numbers to a call: the second step, and the only one that could ever look at the journal.
+// From a letter and its numbers to a request: the second step, which sees neither the line nor a journal.
 ghost use mathlib.Core.Path.{_≡_};
 ghost use mathlib.Core.Bool.{cond};
 ghost use lib.Dec.{eqb};
