@@ -9,14 +9,17 @@ use native.Mathlib.Numerals.{add-one}
 use native.Mathlib.Omega.{arith}
 use lib.Dec.{eqb}
 use lib.ListN.{length, getD, take, drop, set, length-drop, List·getD-eq-default}
-use lib.Seq.{take-suc-set}
+use lib.Seq.{take-suc-set, length-take-le}
 use borrow.Author.Tests.{eq-eqb, ne-eqb}
+use Rattle.buffers.specs.Bytes.{put}
+use Rattle.buffers.proofs.Lists.{put-one, put-none, put-put}
 use Rattle.buffers.proofs.Tests.{by-test}
 use Rattle.protocol.specs.declared.Number.{Number}
 use Rattle.protocol.specs.declared.Number.the-variants.{Value, Nothing}
 use Rattle.protocol.specs.Number.{isDigit, digits, spelt, isNumber, numberAt}
 use Rattle.protocol.specs.KeyLine.{spacedNumber, inFront, numbersFrom}
 use Rattle.reader.proofs.Spelling.{number-size}
+use Rattle.requests.specs.Numbers.{numbersRead}
 
 -- ---- where a number ends
 
@@ -71,6 +74,14 @@ abbrev pub ReadTo : List ℕ → List ℕ → ℕ → ℕ → Type 0
 ReadTo line values at n =
     (1 + 2 * n ≤ at) × (at ≤ length line) × (numbersFrom (length line) line 1 ≡ joined (take n values) (numbersFrom (length line - n) line at))
 
+-- and they are all that was read, over the values at entry
+abbrev pub Kept : List ℕ → List ℕ → List ℕ → ℕ → ℕ → Type 0
+Kept line before values at n =
+    (values ≡ put before 0 (take n values)) × (numbersRead (length line) line 1 ≡ take n values ++ numbersRead (length line - n) line at)
+
+pub kept-none : (line values : List ℕ) → Kept line values values 1 0
+kept-none line values = (sym (put-none values 0), rw sub-zero)
+
 pub read-none : (line values : List ℕ) → 1 ≤ length line → ReadTo line values 1 0
 read-none line values h = (omega arith, h, rw sub-zero (sym (joined-none (numbersFrom (length line) line 1))))
 
@@ -82,7 +93,38 @@ module _ (line values : List ℕ) (at n : ℕ) (r : ReadTo line values at n) whe
   unfolding numbersFrom
   read-all h = r .2 ∙ rw (left, eq-eqb at (length line) (omega (arith, r .1))) (ap some (append-nil (take n values)))
 
+  -- nothing more is read
+  all-kept : (before : List ℕ) → Kept line before values at n → numbersRead (length line - n) line at ≡ []
+      → values ≡ put before 0 (numbersRead (length line) line 1)
+  all-kept before k stop =
+      let all : numbersRead (length line) line 1 ≡ take n values = k .1 ∙ rw stop (append-nil (take n values)) in
+      k .0 ∙ ap (put before 0) (sym all)
+
+  pub kept-all : (before : List ℕ) → Kept line before values at n → length line ≤ at → values ≡ put before 0 (numbersRead (length line) line 1)
+  unfolding numbersRead
+  kept-all before k h = all-kept before k (rw (left, eq-eqb at (length line) (omega (arith, r .1))))
+
   module _ (inside : at < length line) where
+    pub kept-refused : (before : List ℕ) → Kept line before values at n → spacedNumber line at ≡ Nothing
+        → values ≡ put before 0 (numbersRead (length line) line 1)
+    unfolding numbersRead
+    kept-refused before k e = all-kept before k (rw (left, ne-eqb at (length line) (λ o. omega arith), e))
+
+    read-more : (v next : ℕ) → spacedNumber line at ≡ Value v next → numbersRead (length line - n) line at ≡ v ∷ numbersRead (length line - (n + 1)) line next
+    unfolding numbersRead
+    read-more v next e = rw (left, ne-eqb at (length line) (λ o. omega arith), e)
+
+    pub kept-next : (before : List ℕ) (v next : ℕ) → Kept line before values at n → spacedNumber line at ≡ Value v next → n < length values
+        → Kept line before (set values n v) next (n + 1)
+    kept-next before v next k e room =
+        let front = take n values in
+        let taken : take (n + 1) (set values n v) ≡ front ++ (v ∷ []) = rw (add-one n, take-suc-set values n v room) in
+        let size : n ≡ 0 + length front = omega (arith, length-take-le n values (omega (arith, room))) in
+        let stored = put-one values n v room ∙ ap (λ b. put b n (v ∷ [])) (k .0) ∙ ap (λ p. put (put before 0 front) p (v ∷ [])) size in (
+          stored ∙ put-put before 0 front (v ∷ []) (omega arith) ∙ ap (put before 0) (sym taken),
+          k .1 ∙ rw (read-more v next e, taken) (sym (append-assoc front (v ∷ []) (numbersRead (length line - (n + 1)) line next))),
+        )
+
     pub refused : spacedNumber line at ≡ Nothing → numbersFrom (length line) line 1 ≡ none
     unfolding numbersFrom
     refused e = r .2 ∙ rw (left, ne-eqb at (length line) (λ o. omega arith), e)

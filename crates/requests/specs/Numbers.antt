@@ -1,9 +1,14 @@
 -- What `read_numbers` gives for the numbers of a line (document 01, "Key line").
 -- Assumes nothing.
-use mathlib.Core.List.{List, []}
+use mathlib.Core.Bool.{cond}
+use mathlib.Core.List.{List, [], _∷_}
 use mathlib.Core.Option.{Option, some, none}
-use Prim.Native.Nat.{ℕ}
+use Prim.Native.Nat.{ℕ, zero, suc}
+use lib.Dec.{eqb}
 use lib.ListN.{length}
+use Rattle.protocol.specs.declared.Number.{Number}
+use Rattle.protocol.specs.declared.Number.the-variants.{Value, Nothing}
+use Rattle.protocol.specs.KeyLine.{spacedNumber}
 use Rattle.requests.specs.declared.numbers.Numbers.{Numbers}
 use Rattle.requests.specs.declared.numbers.Numbers.the-variants.{Count, Refused}
 
@@ -21,3 +26,12 @@ listed none = []
 abbrev pub countOf : Numbers → ℕ
 countOf (Count n) = n
 countOf (Refused number) = 0
+
+-- the numbers that are read from a position on, up to the line's end or to where no number can be read
+abbrev pub andRead : Number → (ℕ → List ℕ) → List ℕ
+andRead (Value v next) more = v ∷ more next
+andRead Nothing more = []
+
+unfoldable pub numbersRead : ℕ → List ℕ → ℕ → List ℕ
+numbersRead zero line position = []
+numbersRead (suc most) line position = cond (eqb position (length line)) [] (andRead (spacedNumber line position) (numbersRead most line))

@@ -2,8 +2,9 @@
 ghost use mathlib.Core.Path.{_≡_};
 ghost use Prim.Native.Nat.{_≤_};
 ghost use lib.ListN.{length, take};
+ghost use Rattle.buffers.specs.Bytes.{put};
 ghost use Rattle.protocol.specs.KeyLine.{spacedNumber, numbersFrom};
-ghost use Rattle.requests.specs.Numbers.{counted, countOf, listed};
+ghost use Rattle.requests.specs.Numbers.{counted, countOf, listed, numbersRead};
 use protocol::Number;
 use reader::read_number;
 
@@ -32,6 +33,7 @@ pub fn read_numbers(line: &[u8], values: &mut [u32]) -> Numbers
     ensures { λ r. ⌜ r ≡ counted (numbersFrom (length (now (line .entry))) (now (line .entry)) 1) ⌝ }
     ensures { λ r. ⌜ take (countOf r) (now (values .exit)) ≡ listed (numbersFrom (length (now (line .entry))) (now (line .entry)) 1) ⌝ }
     ensures { λ r. ⌜ countOf r ≤ 31 ⌝ }
+    ensures { λ _. ⌜ now (values .exit) ≡ put (now (values .entry)) 0 (numbersRead (length (now (line .entry))) (now (line .entry)) 1) ⌝ }
 {
     let mut at: usize = 1;
     let mut n: usize = 0;

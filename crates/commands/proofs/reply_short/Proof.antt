@@ -30,7 +30,7 @@ module _ (read : tie.After-count) where
   count = read .count .given .0 .0
 
   few : count ≤ length (called .read-numbers .last .1 .0)
-  few = let most = called .read-numbers .ensures .1 .1 in omega (arith, rw (read .count .given .1) at most, called .read-numbers .kept)
+  few = let most = called .read-numbers .ensures .1 .1 .0 in omega (arith, rw (read .count .given .1) at most, called .read-numbers .kept)
 
 array-share-prefix-values : tie.Need-array-share-prefix-values
 array-share-prefix-values c = few (c .before .before)
