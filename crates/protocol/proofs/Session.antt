@@ -17,6 +17,7 @@ use Rattle.reference.specs.Answers.{journalAfter, statusOf, answer, markBytes}
 use Rattle.reference.specs.Model.{stepModel, modelOf, journalOf}
 use Rattle.reference.specs.Stored.{Holds}
 use Rattle.reference.proofs.Stored.{stored-calls}
+use Rattle.reference.proofs.Untouched.{untouched}
 use Rattle.protocol.specs.KeyLine.{Command, Make, Refuse, commandOf}
 use Rattle.protocol.specs.Reply.{refusalReply, answerReply, callReply, commandReply, commandAfter, replyTo, journalAfterLine}
 use Rattle.protocol.specs.Run.{replies, journalAfterLines}
@@ -92,5 +93,6 @@ session lines =
       replied = from-replies [] lines;
       calls = same;
       readsBack = rw same held;
+      untouched = λ e. same ∙ untouched (reverse (callsOf lines)) e;
       stored = λ s es e. same ∙ demand .accepted (journalOf (reverse (callsOf lines))) s es (held .reads ∙ e) .stored;
     }

@@ -8,7 +8,7 @@ use lib.Dec.{eqb}
 use Rattle.buffers.specs.Bytes.{zeros}
 use Rattle.year.specs.declared.Setup.{Setup}
 use Rattle.year.specs.declared.Event.{Event}
-use Rattle.year.specs.Model.{Model, Year}
+use Rattle.year.specs.Model.{Model, NoSetup, Year}
 use Rattle.journal.specs.Encode.{encode}
 use Rattle.reference.specs.Call.{Call, SetUp, Enter, ReadStatus, WriteMarks}
 use Rattle.reference.specs.Refusals.{refusal}
@@ -58,5 +58,6 @@ module _ (lines : List (List ℕ)) where
     -- the journal is that of the lines' calls, and it is read as the model
     pub calls : journalAfterLines (zeros 544) lines ≡ journalOf newestFirst
     pub readsBack : Holds (journalAfterLines (zeros 544) lines) (modelOf newestFirst)
-    -- so once a setup was accepted every byte of it is the model's
+    -- so every byte of it is the model's: zeros as long as no setup was accepted, and then its stored form
+    pub untouched : modelOf newestFirst ≡ NoSetup → journalAfterLines (zeros 544) lines ≡ zeros 544
     pub stored : (s : Setup) (es : List Event) → modelOf newestFirst ≡ Year s es → journalAfterLines (zeros 544) lines ≡ encode s es

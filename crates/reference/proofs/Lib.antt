@@ -2,6 +2,7 @@ pub mod Cases
 pub mod Validity
 pub mod WithSetup
 pub mod Stored
+pub mod Untouched
 pub mod Given
 pub mod Entering
 pub mod Demand1

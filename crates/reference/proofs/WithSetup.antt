@@ -18,7 +18,7 @@ accepted-has (Enter entry) (Year s es) h = refl
 accepted-has ReadStatus model h = h
 accepted-has (WriteMarks size) model h = h
 
-step-has : (call : Call) (model : Model) → noSetup model ≡ false → noSetup (stepModel call model) ≡ false
+pub step-has : (call : Call) (model : Model) → noSetup model ≡ false → noSetup (stepModel call model) ≡ false
 unfolding stepModel
 step-has call model h =
     by-test (λ (m : Model). noSetup m ≡ false) (eqb (refusal 544 call model) 0) (accepted call model) model (λ _. accepted-has call model h) (λ _. h)
