@@ -38,8 +38,10 @@ def limit(child):
     """It is ended if it does not end by itself."""
     timer = threading.Timer(SECONDS, child.kill)
     timer.start()
-    yield
-    timer.cancel()
+    try:
+        yield
+    finally:
+        timer.cancel()
 
 
 def at_once(program):
