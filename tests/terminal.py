@@ -129,7 +129,7 @@ def main():
     program = os.path.abspath(sys.argv[1])
     tried = [
         ('each line answered before the next comes', lambda: at_once(program)),
-        ('one byte at a time', lambda: in_pieces(program, 'run_sessions', (1,))),
+        ('one byte at a time', lambda: in_pieces(program, 'run_lines', (1,))),
         ('pieces of every size', lambda: in_pieces(program, 'run_lines', (1, 2, 3, 5, 63, 64, 65, 66, 130, 1000, 4095, 4096))),
         ('output closed', lambda: output_closed(program, False)),
         ('output closed, the signal ignored', lambda: output_closed(program, True)),

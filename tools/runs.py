@@ -3,8 +3,8 @@
 
 Run from the repository's root, it writes crates/NAME/stdin and crates/NAME/stdout of each run; it shares nothing with the calculator.
   calculator, run_*   the worked years examples/*.txt, as they stand
-  run_lines           lines that are not of the form, too long or of any bytes, before a setup, in mid-year and after a second setup; no newline at the end
-  run_sessions        the calls of crates/call_lists/stdin as key lines, with lines damaged by a fixed seed among them
+  run_lines           lines that are not of the form, too long or of any bytes, before a setup, in mid-year and after a second setup; the calls of
+                      crates/call_lists/stdin as key lines, with lines damaged by a fixed seed among them; no newline at the end
   run_empty           an input of no bytes
 Counts of what was met go to standard error; the script fails if a letter, a refusal that a key line can meet, a verdict or a mark was never met.
 """
@@ -128,7 +128,7 @@ def long_lines():
 
 
 def any_lines():
-    """The whole input of run_lines."""
+    """Lines of any bytes, around a year."""
     every = [bytes([b]) for b in range(256) if b != 10]
     year = [SETUP, b'E 1 998000 5000000', b'E 2 1071000 5000000', b'E 3 998400 998600 5000499 5000501']
     bad = MALFORMED + REFUSED
@@ -172,7 +172,7 @@ def sessions():
         if rng.random() < 0.08:
             lines.append(damaged(rng, key))
         lines.append(key)
-    return b'\n'.join(lines) + b'\n' + b'L' * 65
+    return b'\n'.join(lines + [b'L' * 65, SETUP, b'L'])
 
 
 # --------------------------------------------------------------------- main
@@ -198,8 +198,7 @@ def main():
         label = os.path.basename(path)[:-4]
         with open(path, 'rb') as f:
             write('calculator' if label == 'year' else 'run_' + label, f.read(), met)
-    write('run_lines', any_lines(), met)
-    write('run_sessions', sessions(), met)
+    write('run_lines', any_lines() + b'\n' + sessions(), met)
     write('run_empty', b'', met)
     for title, counts in zip(('letters accepted', 'refusals', 'verdicts', 'marks'), met):
         print(title, dict(sorted(counts.items())), file=sys.stderr)
