@@ -17,7 +17,7 @@ use Rattle.requests.specs.declared.numbers.Numbers.the-variants.{Count, Refused
 use Rattle.requests.specs.declared.request.Request.{Request}
 use Rattle.requests.specs.Numbers.{counted, countOf, listed}
 use Rattle.requests.specs.Request.{commandFrom, Asks}
-use Rattle.replies.specs.Written.{Replied}
+use Rattle.replies.specs.Replied.{Replied}
 use Rattle.commands.proofs.Made.{Done}
 
 abbrev isCount : Numbers → Bool

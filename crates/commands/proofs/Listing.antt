@@ -16,8 +16,8 @@ use Rattle.reference.specs.Answers.{refusalOn, markBytes, outAfter, marksPart}
 use Rattle.reference.proofs.Given.{accepted-gives, refused-gives}
 use Rattle.reference.proofs.Demand1.{out-fits, mark-bytes}
 use Rattle.protocol.specs.Reply.{refusalReply, marksReply, callReply}
-use Rattle.replies.specs.Written.{Replied, marksFront}
-use Rattle.replies.proofs.Written.{marks-replied}
+use Rattle.replies.specs.Replied.{Replied, marksFront}
+use Rattle.replies.proofs.Replied.{marks-replied}
 
 module _ (journal out : List ℕ) (room : 96 ≤ length out) where
   -- the part that is lent for the marks

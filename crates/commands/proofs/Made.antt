@@ -10,7 +10,7 @@ use Rattle.reference.specs.Call.{Call, WriteMarks}
 use Rattle.reference.specs.Answers.{refusalOn, journalAfter, answer}
 use Rattle.protocol.specs.KeyLine.{Command, Make, Refuse}
 use Rattle.protocol.specs.Reply.{refusalReply, answerReply, callReply, commandReply, commandAfter}
-use Rattle.replies.specs.Written.{Replied}
+use Rattle.replies.specs.Replied.{Replied}
 
 -- what is left of a journal and an output by a command
 abbrev pub Done : Command → List ℕ → List ℕ → List ℕ → List ℕ → ℕ → Type 0

@@ -5,7 +5,7 @@ ghost use lib.ListN.{length};
 ghost use Rattle.requests.specs.Request.{commandFrom, Enough};
 ghost use Rattle.reference.specs.Answers.{journalAfter, answer};
 ghost use Rattle.reference.specs.Call.{WriteMarks};
-ghost use Rattle.replies.specs.Written.{Replied};
+ghost use Rattle.replies.specs.Replied.{Replied};
 ghost use Rattle.protocol.specs.KeyLine.{engineFrom};
 ghost use Rattle.protocol.specs.Reply.{callReply, commandReply, commandAfter};
 use calls::amend;
@@ -15,9 +15,9 @@ use calls::enter_engine;
 use calls::set_up;
 use calls::write_marks;
 use reference::Answer;
-use replies::reply::write_answer;
-use replies::reply::write_marks_front;
-use replies::reply::write_refusal;
+use replies::write_answer;
+use replies::write_marks_front;
+use replies::write_refusal;
 use requests::request::Request;
 
 // "E: engine number, its HC+NOx readings, as many CO readings."

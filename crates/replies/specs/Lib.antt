@@ -1,1 +1,1 @@
-pub mod Written
+pub mod Replied

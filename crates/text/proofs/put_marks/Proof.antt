@@ -1,7 +1,7 @@
 -- `put_marks` meets its contract. Assumes nothing.
 use borrow.Author.Needs.{needs}
-use Rattle.replies.proofs.text.put_marks.Statement.{statement}
-use Rattle.replies.proofs.text.put_marks.Tie as tie
+use Rattle.text.proofs.put_marks.Statement.{statement}
+use Rattle.text.proofs.put_marks.Tie as tie
 
 mark-byte-requires : tie.Need-mark-byte-requires
 mark-byte-requires c κs = search needs

@@ -1,9 +1,9 @@
 -- `put_number` meets its contract. Assumes nothing.
 use native.Mathlib.Omega.{arith}
-use Rattle.replies.proofs.Written.{then}
+use Rattle.text.proofs.Written.{then}
 use borrow.Author.Needs.{needs}
-use Rattle.replies.proofs.text.put_number.Statement.{statement}
-use Rattle.replies.proofs.text.put_number.Tie as tie
+use Rattle.text.proofs.put_number.Statement.{statement}
+use Rattle.text.proofs.put_number.Tie as tie
 
 slice-aggregate-put-bytes : tie.Need-slice-aggregate-put-bytes
 slice-aggregate-put-bytes c = search needs

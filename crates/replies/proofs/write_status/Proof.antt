@@ -2,10 +2,11 @@
 use Prim.Native.Nat.{_≤_}
 use native.Mathlib.Omega.{arith}
 use lib.ListN.{length}
-use Rattle.replies.proofs.Written.{then-front, replied}
+use Rattle.text.proofs.Written.{then-front}
+use Rattle.replies.proofs.Replied.{replied}
 use borrow.Author.Needs.{needs}
-use Rattle.replies.proofs.reply.write_status.Statement.{statement}
-use Rattle.replies.proofs.reply.write_status.Tie as tie
+use Rattle.replies.proofs.write_status.Statement.{statement}
+use Rattle.replies.proofs.write_status.Tie as tie
 
 slice-aggregate-put-bytes : tie.Need-slice-aggregate-put-bytes
 slice-aggregate-put-bytes c = search needs

@@ -1,9 +1,10 @@
 -- `write_refusal` meets its contract. Assumes nothing.
 use native.Mathlib.Omega.{arith}
-use Rattle.replies.proofs.Written.{then-front, replied}
+use Rattle.text.proofs.Written.{then-front}
+use Rattle.replies.proofs.Replied.{replied}
 use borrow.Author.Needs.{needs}
-use Rattle.replies.proofs.reply.write_refusal.Statement.{statement}
-use Rattle.replies.proofs.reply.write_refusal.Tie as tie
+use Rattle.replies.proofs.write_refusal.Statement.{statement}
+use Rattle.replies.proofs.write_refusal.Tie as tie
 
 slice-aggregate-put-bytes : tie.Need-slice-aggregate-put-bytes
 slice-aggregate-put-bytes c = search needs

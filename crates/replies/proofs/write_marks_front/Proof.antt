@@ -2,11 +2,11 @@
 use mathlib.Core.Path.{_≡_}
 use native.Mathlib.Omega.{arith}
 use Rattle.buffers.specs.Text.{text}
-use Rattle.replies.specs.Written.{marksFront}
-use Rattle.replies.proofs.Written.{front-some}
+use Rattle.replies.specs.Replied.{marksFront}
+use Rattle.replies.proofs.Replied.{front-some}
 use borrow.Author.Needs.{needs}
-use Rattle.replies.proofs.reply.write_marks_front.Statement.{statement}
-use Rattle.replies.proofs.reply.write_marks_front.Tie as tie
+use Rattle.replies.proofs.write_marks_front.Statement.{statement}
+use Rattle.replies.proofs.write_marks_front.Tie as tie
 
 slice-aggregate-put-bytes : tie.Need-slice-aggregate-put-bytes
 slice-aggregate-put-bytes c = search needs

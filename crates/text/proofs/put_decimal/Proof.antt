@@ -3,10 +3,10 @@ use mathlib.Core.Path.{_≡_, _∙_}
 use native.Mathlib.Omega.{arith}
 use lib.ListN.{take}
 use Rattle.protocol.specs.Reply.{decimal}
-use Rattle.replies.proofs.Decimal.{twenty-digits, digits-decimal}
+use Rattle.text.proofs.Decimal.{twenty-digits, digits-decimal}
 use borrow.Author.Needs.{needs}
-use Rattle.replies.proofs.text.put_decimal.Statement.{statement}
-use Rattle.replies.proofs.text.put_decimal.Tie as tie
+use Rattle.text.proofs.put_decimal.Statement.{statement}
+use Rattle.text.proofs.put_decimal.Tie as tie
 
 decimal-requires : tie.Need-decimal-requires
 decimal-requires c κs = tt

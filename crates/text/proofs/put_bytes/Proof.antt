@@ -6,8 +6,8 @@ use native.Mathlib.Omega.{arith}
 use lib.ListN.{length, length-set}
 use lib.Seq.{paste, paste-zero, paste-suc}
 use Rattle.buffers.proofs.Lists.{put-copy}
-use Rattle.replies.proofs.text.put_bytes.Statement.{statement}
-use Rattle.replies.proofs.text.put_bytes.Tie as tie
+use Rattle.text.proofs.put_bytes.Statement.{statement}
+use Rattle.text.proofs.put_bytes.Tie as tie
 
 abbrev Inv-loop : tie.InvT-loop
 Inv-loop bytes out₀ at i₀ out i = (i ≤ length bytes) × (out ≡ paste out₀ at bytes i) × (length out ≡ length out₀)

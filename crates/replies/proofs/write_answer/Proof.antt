@@ -1,7 +1,7 @@
 -- `write_answer` meets its contract. Assumes nothing.
 use borrow.Author.Needs.{needs}
-use Rattle.replies.proofs.reply.write_answer.Statement.{statement}
-use Rattle.replies.proofs.reply.write_answer.Tie as tie
+use Rattle.replies.proofs.write_answer.Statement.{statement}
+use Rattle.replies.proofs.write_answer.Tie as tie
 
 enum-known-answer : tie.Need-enum-known-answer
 enum-known-answer c = search needs

@@ -1,8 +1,8 @@
 -- `put_size` meets its contract. Assumes nothing.
 use native.Mathlib.Omega.{arith}
 use borrow.Author.Needs.{needs}
-use Rattle.replies.proofs.text.put_size.Statement.{statement}
-use Rattle.replies.proofs.text.put_size.Tie as tie
+use Rattle.text.proofs.put_size.Statement.{statement}
+use Rattle.text.proofs.put_size.Tie as tie
 
 enum-known-size : tie.Need-enum-known-size
 enum-known-size c = search needs

@@ -5,7 +5,7 @@ ghost use Prim.Native.Nat.{_+_, _≤_};
 ghost use lib.ListN.{length};
 ghost use Rattle.cumsum.specs.Marks.{markByte};
 ghost use Rattle.protocol.specs.Reply.{decimal, spaced, sizeText};
-ghost use Rattle.replies.specs.Written.{Written};
+ghost use Rattle.text.specs.Written.{Written};
 use cumsum::Mark;
 use printing::mark_byte;
 use statistics::SampleSize;

@@ -1,28 +1,16 @@
--- Text put after text, and the marks as a reply.
+-- Text at the front of an output as a reply, and the marks as one.
 -- Assumes nothing.
-use mathlib.Core.Path.{_≡_, refl, _∙_}
-use mathlib.Core.List.{List, [], _∷_, _++_}
+use mathlib.Core.Path.{_≡_, refl}
+use mathlib.Core.List.{List, [], _∷_}
 use Prim.Native.Nat.{ℕ, zero, suc, _+_, _≤_, _<_}
 use native.Mathlib.Omega.{arith}
-use lib.ListN.{length, length-append}
+use lib.ListN.{length}
 use Rattle.buffers.specs.Bytes.{put}
 use Rattle.buffers.specs.Text.{text}
-use Rattle.buffers.proofs.Lists.{put-put, put-none, put-front}
+use Rattle.buffers.proofs.Lists.{put-none, put-front}
 use Rattle.protocol.specs.Reply.{marksReply}
-use Rattle.replies.specs.Written.{Written, Replied, marksFront}
-
--- text after text is the two as one; and at the front of an output
-pub then : {before after last xs ys : List ℕ} {place middle end : ℕ} → Written before place xs after middle → Written after middle ys last end
-    → place ≤ length before → Written before place (xs ++ ys) last end
-then {before} {after} {last} {xs} {ys} {place} {middle} {end} v w h =
-    record {
-      out = w .out ∙ rw (v .out, v .position) (put-put before place xs ys h);
-      position = omega (arith, v .position, w .position, length-append xs ys);
-    }
-
-pub then-front : {before after last xs ys : List ℕ} {middle end : ℕ} → Written before 0 xs after middle → Written after middle ys last end
-    → Written before 0 (xs ++ ys) last end
-then-front v w = then v w (omega arith)
+use Rattle.text.specs.Written.{Written}
+use Rattle.replies.specs.Replied.{Replied, marksFront}
 
 -- text at the front is a reply
 pub replied : {before bytes after : List ℕ} {end : ℕ} → Written before 0 bytes after end → end < 96 → Replied before bytes after end
