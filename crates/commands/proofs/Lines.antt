@@ -11,7 +11,7 @@ use borrow.Author.Tests.{le-ltb, lt-ltb}
 use Rattle.buffers.specs.Bytes.{put}
 use Rattle.buffers.proofs.Lists.{length-put}
 use Rattle.protocol.specs.KeyLine.{Command, Refuse, asked, numbersFrom, callOf, callFrom, commandOf}
-use Rattle.protocol.specs.Reply.{refusalReply, replyTo, journalAfterLine}
+use Rattle.protocol.specs.Reply.{replyTo, journalAfterLine}
 use Rattle.requests.specs.declared.numbers.Numbers.{Numbers}
 use Rattle.requests.specs.declared.numbers.Numbers.the-variants.{Count, Refused}
 use Rattle.requests.specs.declared.request.Request.{Request}

@@ -1,13 +1,13 @@
 -- The parts of an engine's numbers: its number, the HC+NOx readings, the CO readings.
 -- Assumes nothing.
-use mathlib.Core.Path.{_≡_, sym}
+use mathlib.Core.Path.{_≡_}
 use mathlib.Core.List.{List}
 use Prim.Native.Nat.{ℕ, _+_, _-_, _/_}
 use native.Mathlib.Omega.{arith}
 use lib.ListN.{length, getD, take, drop}
 use lib.Seq.{drop-drop}
 use Rattle.buffers.proofs.Lists.{part-from}
-use Rattle.reference.specs.Call.{Call, Enter, engineEntry}
+use Rattle.reference.specs.Call.{Enter, engineEntry}
 use Rattle.protocol.specs.KeyLine.{engineFrom}
 
 module _ (vs : List ℕ) where

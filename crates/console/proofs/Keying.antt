@@ -1,9 +1,9 @@
 -- Bytes of a line held, a reply with its newline, and the end of the input.
 -- Assumes nothing.
-use mathlib.Core.Path.{_≡_, refl, sym, ap, _∙_}
+use mathlib.Core.Path.{_≡_, refl, sym, _∙_}
 use mathlib.Core.Bool.{Bool, true, false}
 use mathlib.Core.List.{List, [], _∷_, _++_}
-use Prim.Native.Nat.{ℕ, _+_, min, _≤_, _<_}
+use Prim.Native.Nat.{ℕ, _+_, min, _<_}
 use native.Mathlib.Omega.{arith}
 use lib.Dec.{leb}
 use lib.ListN.{length, take, set, length-append, length-set}

@@ -5,15 +5,12 @@ use mathlib.Core.Bool.{Bool, true, false, cond}
 use mathlib.Core.List.{List, [], _∷_, reverse, reverseAux}
 use Prim.Native.Nat.{ℕ}
 use lib.Dec.{eqb}
-use lib.ListN.{length}
-use borrow.Author.Tests.{eqb-true}
 use Rattle.year.specs.Model.{Model}
-use Rattle.journal.specs.Read.{readJournal}
 use Rattle.journal.proofs.OneJournal.{demand}
 use Rattle.reference.specs.declared.Answer.the-variants.{Accepted, Refused}
 use Rattle.reference.specs.Call.{Call, SetUp, Enter, ReadStatus, WriteMarks}
 use Rattle.reference.specs.Refusals.{refusal}
-use Rattle.reference.specs.Answers.{journalAfter, statusOf, answer, markBytes}
+use Rattle.reference.specs.Answers.{statusOf, answer}
 use Rattle.reference.specs.Model.{stepModel, modelOf, journalOf}
 use Rattle.reference.specs.Stored.{Holds}
 use Rattle.reference.proofs.Stored.{stored-calls}
@@ -21,7 +18,7 @@ use Rattle.reference.proofs.Untouched.{untouched}
 use Rattle.protocol.specs.KeyLine.{Command, Make, Refuse, commandOf}
 use Rattle.protocol.specs.Reply.{refusalReply, answerReply, callReply, commandReply, commandAfter, replyTo, journalAfterLine}
 use Rattle.protocol.specs.Run.{replies, journalAfterLines}
-use Rattle.protocol.specs.Session.{andCall, callsOf, acceptedReply, modelReply, modelReplies, Session}
+use Rattle.protocol.specs.Session.{andCall, callsOf, modelReply, modelReplies, Session}
 
 -- one call on a journal that holds the model's state
 module _ (calls : List Call) where

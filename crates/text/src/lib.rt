@@ -1,5 +1,4 @@
 // Text into a lent output, from a position on. Each function answers the position after what it put.
-ghost use mathlib.Core.Path.{_≡_};
 ghost use mathlib.Core.List.{[], _∷_};
 ghost use Prim.Native.Nat.{_+_, _≤_};
 ghost use lib.ListN.{length};
