@@ -1,0 +1,25 @@
+-- An answer as numbers, for a caller in another language (document 01, "The book": "Status reads a book: n, verdict, and per pollutant S, s, e, both C, both H,
+-- N in tenths, mark").
+-- Assumes nothing.
+use mathlib.Core.List.{List, [], _∷_, _++_}
+use Prim.Native.Nat.{ℕ}
+use Rattle.statistics.specs.declared.SampleSize.{SampleSize}
+use Rattle.statistics.specs.declared.SampleSize.the-variants.{Tenths, Absent}
+use Rattle.cumsum.specs.Marks.{markByte}
+use Rattle.year.specs.declared.Figures.{Figures}
+use Rattle.year.specs.declared.Status.{Status}
+
+-- N in tenths, 0 for none: every N is at least 1
+abbrev pub sizeNumber : SampleSize → ℕ
+sizeNumber (Tenths tenths) = tenths
+sizeNumber Absent = 0
+
+-- nine for a pollutant, the mark as its byte
+unfoldable pub pollutantNumbers : Figures → List ℕ
+pollutantNumbers f =
+    f .sum ∷ f .deviation .floor ∷ f .deviation .inexact ∷ f .cumsum .low ∷ f .cumsum .high ∷ f .limit .low ∷ f .limit .high ∷ sizeNumber (f .size)
+    ∷ markByte (f .mark) ∷ []
+
+-- twenty in all: n and the verdict, HC+NOx, CO
+unfoldable pub statusNumbers : Status → List ℕ
+statusNumbers s = (s .n ∷ s .verdict ∷ []) ++ pollutantNumbers (s .hcnox) ++ pollutantNumbers (s .co)

@@ -1,0 +1,102 @@
+// An answer as numbers in a lent slice: its refusal, and the twenty figures of its status.
+ghost use mathlib.Core.Path.{_≡_};
+ghost use Prim.Native.Nat.{_≤_};
+ghost use lib.ListN.{length};
+ghost use Rattle.buffers.specs.Bytes.{put};
+ghost use Rattle.reference.specs.Answers.{answerOf, noStatus};
+ghost use Rattle.year.specs.Status.{blank};
+ghost use Rattle.answers.specs.Numbers.{sizeNumber, pollutantNumbers, statusNumbers};
+use cumsum::Interval;
+use cumsum::Mark;
+use printing::mark_byte;
+use reference::Answer;
+use statistics::Deviation;
+use statistics::SampleSize;
+use year::Figures;
+use year::Status;
+
+// A sample size in tenths, 0 for none.
+fn size_number(size: SampleSize) -> u64
+    ensures { λ r. ⌜ r ≡ sizeNumber size ⌝ }
+{
+    match size {
+        SampleSize::Tenths(tenths) => tenths,
+        SampleSize::Absent => 0,
+    }
+}
+
+// Writes the nine numbers of one pollutant. (An enum that is a field is copied before it is passed on: only a local is covered.)
+fn write_pollutant(part: &mut [u64], f: Figures)
+    requires { ⌜ length (now part) ≡ 9 ⌝ }
+    ensures { λ _. ⌜ now (part .exit) ≡ pollutantNumbers f ⌝ }
+{
+    let size = f.size;
+    let mark = f.mark;
+    part[0] = f.sum;
+    part[1] = f.deviation.floor;
+    part[2] = f.deviation.inexact;
+    part[3] = f.cumsum.low;
+    part[4] = f.cumsum.high;
+    part[5] = f.limit.low;
+    part[6] = f.limit.high;
+    part[7] = size_number(size);
+    part[8] = mark_byte(mark) as u64;
+}
+
+// Writes the twenty numbers of a status at the front of a lent slice. The rest of the slice stays.
+fn write_status(numbers: &mut [u64], s: Status)
+    requires { ⌜ 20 ≤ length (now numbers) ⌝ }
+    ensures { λ _. ⌜ now (numbers .exit) ≡ put (now (numbers .entry)) 0 (statusNumbers s) ⌝ }
+{
+    write_pollutant(&mut numbers[2..11], s.hcnox);
+    write_pollutant(&mut numbers[11..20], s.co);
+    numbers[0] = s.n as u64;
+    numbers[1] = s.verdict as u64;
+}
+
+// The figures of a pollutant of which nothing is told.
+fn no_figures() -> Figures
+    ensures { λ r. ⌜ r ≡ blank 0 ⌝ }
+{
+    Figures {
+        sum: 0,
+        deviation: Deviation {
+            floor: 0,
+            inexact: 0,
+        },
+        cumsum: Interval { low: 0, high: 0 },
+        limit: Interval { low: 0, high: 0 },
+        size: SampleSize::Absent,
+        mark: Mark::Unmarked,
+    }
+}
+
+// The status that a refusal tells.
+fn no_status() -> Status
+    ensures { λ r. ⌜ r ≡ noStatus ⌝ }
+{
+    Status {
+        n: 0,
+        verdict: 0,
+        hcnox: no_figures(),
+        co: no_figures(),
+    }
+}
+
+// Writes the numbers of an answer at the front of a lent slice, and answers its refusal, 0 for none.
+pub fn write_answer(numbers: &mut [u64], answer: Answer) -> u8
+    requires { ⌜ 20 ≤ length (now numbers) ⌝ }
+    ensures { λ r. ⌜ r ≡ answerOf answer .refusal ⌝ }
+    ensures { λ _. ⌜ now (numbers .exit) ≡ put (now (numbers .entry)) 0 (statusNumbers (answerOf answer .status)) ⌝ }
+{
+    match answer {
+        Answer::Accepted(s) => {
+            write_status(numbers, s);
+            0
+        }
+        Answer::Refused(number) => {
+            write_status(numbers, no_status());
+            number
+        }
+    }
+}

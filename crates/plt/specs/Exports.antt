@@ -1,0 +1,40 @@
+-- What an exported function answers, and what it leaves in the slices lent to it. A slice may be too short for what is to be written at its front: then nothing
+-- is done. Else the answer is the call's own (document 01, "How far a contract must reach").
+-- Assumes nothing.
+use mathlib.Core.Bool.{cond}
+use mathlib.Core.List.{List}
+use Prim.Native.Nat.{ℕ}
+use lib.Dec.{ltb}
+use lib.ListN.{length}
+use Rattle.buffers.specs.Bytes.{put}
+use Rattle.reference.specs.Call.{Call}
+use Rattle.reference.specs.Answers.{told, journalAfter}
+use Rattle.protocol.specs.Reply.{replyTo, journalAfterLine}
+use Rattle.answers.specs.Numbers.{statusNumbers}
+
+-- a value where a lent slice has no room for so many numbers, and one where it has
+module _ {A : Type 0} where
+  abbrev pub ifShort : ℕ → List ℕ → A → A → A
+  ifShort size lent short long = cond (ltb (length lent) size) short long
+
+-- a key line: how many bytes its reply has (0, which no reply has, where 96 bytes are too many for the output), the output, the journal
+module _ (line journal out : List ℕ) where
+  unfoldable pub replyCount : ℕ
+  replyCount = ifShort 96 out 0 (length (replyTo line journal))
+
+  unfoldable pub replyLeft : List ℕ
+  replyLeft = ifShort 96 out out (put out 0 (replyTo line journal))
+
+  unfoldable pub lineLeft : List ℕ
+  lineLeft = ifShort 96 out journal (journalAfterLine line journal)
+
+-- a call that answers a status: its refusal, 0 for none (255, which no refusal is, where the figures are fewer than twenty), the figures, the journal
+module _ (call : Call) (journal figures : List ℕ) where
+  unfoldable pub refusalTold : ℕ
+  refusalTold = ifShort 20 figures 255 (told call journal .refusal)
+
+  unfoldable pub figuresLeft : List ℕ
+  figuresLeft = ifShort 20 figures figures (put figures 0 (statusNumbers (told call journal .status)))
+
+  unfoldable pub journalLeft : List ℕ
+  journalLeft = ifShort 20 figures journal (journalAfter call journal)

@@ -1,0 +1,193 @@
+//! What a run has met.
+
+use crate::kinds::KINDS;
+use crate::model::Status;
+
+/// A sort of call.
+#[derive(Clone, Copy, PartialEq, Eq, Debug)]
+pub enum Column {
+    Letter(usize),
+    Other,
+    Engine,
+    Status,
+    Marks,
+}
+
+const LETTERS: &[u8; 6] = b"SEAPXL";
+const COLUMNS: usize = LETTERS.len() + 4;
+const NAMES: [&str; COLUMNS] = [
+    "S", "E", "A", "P", "X", "L", "other", "engine", "status", "marks",
+];
+const REFUSALS: usize = 17;
+
+/// What each sort of call can answer, 0 for accepted; a run has to meet it all.
+const POSSIBLE: [&[usize]; COLUMNS] = [
+    &[0, 1, 2, 3, 4, 5, 6],
+    &[0, 1, 2, 3, 7, 8, 9, 10, 11, 12, 13, 14],
+    &[0, 1, 2, 3, 5, 7, 8, 9],
+    &[0, 1, 2, 3, 7, 8, 9, 15],
+    &[0, 1, 2, 3, 7, 8, 9],
+    &[0, 1, 2, 3, 7],
+    &[1, 2],
+    &[0, 3, 7, 8, 9, 10, 11, 12, 13, 14],
+    &[0, 3, 7],
+    &[0, 3, 7, 16],
+];
+
+const VERDICTS: usize = 8;
+const MARKS: &[u8; 4] = b"-U?O";
+
+impl Column {
+    pub fn of_letter(letter: u8) -> Self {
+        let place = LETTERS.iter().position(|known| *known == letter);
+        place.map_or(Column::Other, Column::Letter)
+    }
+
+    fn place(self) -> usize {
+        match self {
+            Column::Letter(place) => place,
+            Column::Other => 6,
+            Column::Engine => 7,
+            Column::Status => 8,
+            Column::Marks => 9,
+        }
+    }
+}
+
+#[derive(Clone, Default, Debug)]
+pub struct Counts {
+    pub calls: u64,
+    short: u64,
+    /// Cases and calls by kind of input.
+    kinds: [(u64, u64); KINDS.len()],
+    /// Calls by refusal, 0 for accepted, and by sort of call.
+    refusals: [[u64; COLUMNS]; REFUSALS],
+    verdicts: [u64; VERDICTS],
+    /// By pollutant: the newest marks told, and the marks written.
+    newest: [[u64; MARKS.len()]; 2],
+    written: [[u64; MARKS.len()]; 2],
+}
+
+impl Counts {
+    pub fn cases(&self) -> u64 {
+        self.kinds.iter().map(|(cases, _)| cases).sum()
+    }
+
+    /// A case of this kind is over; it made so many calls.
+    pub fn case(&mut self, kind: usize, calls: u64) {
+        self.kinds[kind].0 += 1;
+        self.kinds[kind].1 += calls;
+    }
+
+    pub fn call(&mut self, column: Column, refusal: u8) {
+        self.calls += 1;
+        self.refusals[usize::from(refusal)][column.place()] += 1;
+    }
+
+    /// A call with a buffer too small for any answer.
+    pub fn short(&mut self) {
+        self.calls += 1;
+        self.short += 1;
+    }
+
+    pub fn status(&mut self, status: &Status) {
+        self.told(
+            status.verdict,
+            status.pollutants.map(|figures| figures.mark),
+        );
+    }
+
+    /// The reply to a line.
+    pub fn reply(&mut self, letter: u8, reply: &[u8]) {
+        let Some(rest) = reply.strip_prefix(b"OK") else {
+            return;
+        };
+        let rest = rest.strip_prefix(b" ").unwrap_or(rest);
+        if letter == b'L' {
+            return self.written(rest);
+        }
+        let mut fields = rest.split(|byte| *byte == b' ').skip(1);
+        if let (Some([verdict]), Some([hcnox, co])) = (fields.next(), fields.next()) {
+            self.told(verdict - b'0', [*hcnox, *co]);
+        }
+    }
+
+    /// Marks that were written, HC+NOx and CO by turns.
+    pub fn written(&mut self, marks: &[u8]) {
+        for (place, mark) in marks.iter().enumerate() {
+            self.written[place % 2][mark_place(*mark)] += 1;
+        }
+    }
+
+    fn told(&mut self, verdict: u8, marks: [u8; 2]) {
+        self.verdicts[usize::from(verdict)] += 1;
+        for (row, mark) in self.newest.iter_mut().zip(marks) {
+            row[mark_place(mark)] += 1;
+        }
+    }
+
+    /// What was never met and should have been.
+    pub fn missing(&self) -> Vec<String> {
+        let mut missing = Vec::new();
+        for (column, possible) in POSSIBLE.iter().enumerate() {
+            let unmet = |refusal: &&usize| self.refusals[**refusal][column] == 0;
+            for refusal in possible.iter().filter(unmet) {
+                missing.push(format!("refusal {refusal} of {}", NAMES[column]));
+            }
+        }
+        for (verdict, count) in self.verdicts.iter().enumerate() {
+            if *count == 0 {
+                missing.push(format!("verdict {verdict}"));
+            }
+        }
+        for (name, row) in self.mark_rows() {
+            for (mark, count) in MARKS.iter().zip(row) {
+                if *count == 0 {
+                    missing.push(format!("mark '{}' {name}", char::from(*mark)));
+                }
+            }
+        }
+        missing
+    }
+
+    fn mark_rows(&self) -> [(&'static str, &[u64; MARKS.len()]); 4] {
+        [
+            ("newest, HC+NOx", &self.newest[0]),
+            ("newest, CO", &self.newest[1]),
+            ("written, HC+NOx", &self.written[0]),
+            ("written, CO", &self.written[1]),
+        ]
+    }
+
+    pub fn print(&self) {
+        println!("\ninput kind        cases       calls");
+        for (kind, (cases, calls)) in KINDS.iter().zip(&self.kinds) {
+            println!("{:<12} {cases:>10} {calls:>11}", kind.name);
+        }
+        self.print_refusals();
+        println!("\nbuffers too small for any answer: {}", self.short);
+        println!("\nverdict        told");
+        for (verdict, count) in self.verdicts.iter().enumerate() {
+            println!("{verdict:>7} {count:>11}");
+        }
+        println!("\nmarks                    '-'        'U'        '?'        'O'");
+        for (name, row) in self.mark_rows() {
+            let cells = row.map(|count| format!("{count:>11}")).concat();
+            println!("{name:<17}{cells}");
+        }
+    }
+
+    fn print_refusals(&self) {
+        let heads = NAMES.map(|name| format!("{name:>9}")).concat();
+        println!("\ncalls by refusal (0: accepted) and by sort\n  {heads}    total");
+        for (refusal, row) in self.refusals.iter().enumerate() {
+            let cells = row.map(|count| format!("{count:>9}")).concat();
+            println!("{refusal:>2}{cells}{:>9}", row.iter().sum::<u64>());
+        }
+    }
+}
+
+fn mark_place(mark: u8) -> usize {
+    let place = MARKS.iter().position(|known| *known == mark);
+    place.expect("a mark is one of the four")
+}

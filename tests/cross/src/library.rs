@@ -1,0 +1,195 @@
+//! The library's four calls: the C declarations and safe wrappers of them.
+
+use crate::model::{Figures, Status};
+
+unsafe extern "C" {
+    fn plt_command(
+        journal: *mut u8,
+        journal_length: usize,
+        line: *const u8,
+        line_length: usize,
+        reply: *mut u8,
+        reply_length: usize,
+    ) -> usize;
+
+    fn plt_engine(
+        journal: *mut u8,
+        journal_length: usize,
+        number: u32,
+        hcnox: *const u32,
+        hcnox_length: usize,
+        co: *const u32,
+        co_length: usize,
+        figures: *mut u64,
+        figures_length: usize,
+    ) -> u8;
+
+    fn plt_status(
+        journal: *const u8,
+        journal_length: usize,
+        figures: *mut u64,
+        figures_length: usize,
+    ) -> u8;
+
+    fn plt_marks(
+        journal: *const u8,
+        journal_length: usize,
+        out: *mut u8,
+        out_length: usize,
+        written: *mut usize,
+    ) -> u8;
+}
+
+/// Bytes that a reply buffer needs.
+pub const REPLY: usize = 96;
+
+/// Words that the figures need: n, verdict, nine for each pollutant.
+pub const FIGURES: usize = 20;
+
+/// What `engine_raw` and `status_raw` return if the figures are too few.
+pub const TOO_FEW: u8 = 255;
+
+/// One key line; the reply's length.
+pub fn command(journal: &mut [u8], line: &[u8], reply: &mut [u8]) -> usize {
+    // SAFETY: each pointer and length is that of one slice, and the slices
+    // do not overlap.
+    unsafe {
+        plt_command(
+            journal.as_mut_ptr(),
+            journal.len(),
+            line.as_ptr(),
+            line.len(),
+            reply.as_mut_ptr(),
+            reply.len(),
+        )
+    }
+}
+
+/// Enters an engine; 0 or the refusal.
+pub fn engine_raw(
+    journal: &mut [u8],
+    number: u32,
+    hcnox: &[u32],
+    co: &[u32],
+    figures: &mut [u64],
+) -> u8 {
+    // SAFETY: as in `command`; the two readings are only read.
+    unsafe {
+        plt_engine(
+            journal.as_mut_ptr(),
+            journal.len(),
+            number,
+            hcnox.as_ptr(),
+            hcnox.len(),
+            co.as_ptr(),
+            co.len(),
+            figures.as_mut_ptr(),
+            figures.len(),
+        )
+    }
+}
+
+/// Enters an engine; the status it leaves, or the refusal.
+pub fn engine(journal: &mut [u8], number: u32, hcnox: &[u32], co: &[u32]) -> Result<Status, u8> {
+    let mut figures = [0; FIGURES];
+    match engine_raw(journal, number, hcnox, co, &mut figures) {
+        0 => Ok(status_of(&figures)),
+        refusal => Err(refusal),
+    }
+}
+
+/// Reads the status; 0 or the refusal.
+pub fn status_raw(journal: &[u8], figures: &mut [u64]) -> u8 {
+    // SAFETY: as in `command`; the journal is only read.
+    unsafe {
+        plt_status(
+            journal.as_ptr(),
+            journal.len(),
+            figures.as_mut_ptr(),
+            figures.len(),
+        )
+    }
+}
+
+/// Reads the status, or the refusal.
+pub fn status(journal: &[u8]) -> Result<Status, u8> {
+    let mut figures = [0; FIGURES];
+    match status_raw(journal, &mut figures) {
+        0 => Ok(status_of(&figures)),
+        refusal => Err(refusal),
+    }
+}
+
+/// Writes the marks; 0 or the refusal. `written` is set to the bytes written.
+pub fn marks_raw(journal: &[u8], out: &mut [u8], written: &mut usize) -> u8 {
+    // SAFETY: as in `status_raw`; `written` is one word.
+    unsafe {
+        plt_marks(
+            journal.as_ptr(),
+            journal.len(),
+            out.as_mut_ptr(),
+            out.len(),
+            written,
+        )
+    }
+}
+
+/// Writes the marks; the number of bytes written, or the refusal.
+pub fn marks(journal: &[u8], out: &mut [u8]) -> Result<usize, u8> {
+    let mut written = 0;
+    match marks_raw(journal, out, &mut written) {
+        0 => Ok(written),
+        refusal => Err(refusal),
+    }
+}
+
+/// The status that twenty words stand for.
+pub fn status_of(words: &[u64; FIGURES]) -> Status {
+    let [n, verdict, rest @ ..] = *words;
+    let [hcnox, co] = [0, 9].map(|start| figures_of(&rest[start..start + 9]));
+    Status {
+        n,
+        verdict: verdict as u8,
+        pollutants: [hcnox, co],
+    }
+}
+
+fn figures_of(words: &[u64]) -> Figures {
+    Figures {
+        sum: words[0],
+        s: words[1],
+        e: words[2],
+        c_low: words[3],
+        c_high: words[4],
+        h_low: words[5],
+        h_high: words[6],
+        n_tenths: (words[7] != 0).then_some(words[7]),
+        mark: words[8] as u8,
+    }
+}
+
+/// The twenty words that a status or a refusal is told by.
+pub fn words_of(answer: &Result<Status, u8>) -> [u64; FIGURES] {
+    let mut words = [0; FIGURES];
+    let Ok(status) = answer else {
+        words[10] = u64::from(b'-');
+        words[19] = u64::from(b'-');
+        return words;
+    };
+    words[0] = status.n;
+    words[1] = u64::from(status.verdict);
+    for (part, figures) in words[2..].chunks_mut(9).zip(&status.pollutants) {
+        part.copy_from_slice(&[
+            figures.sum,
+            figures.s,
+            figures.e,
+            figures.c_low,
+            figures.c_high,
+            figures.h_low,
+            figures.h_high,
+            figures.n_tenths.unwrap_or(0),
+            u64::from(figures.mark),
+        ]);
+    }
+    words
+}

@@ -1,0 +1,90 @@
+//! A call and what it left, for comparing and for printing.
+
+use std::fmt;
+
+/// A call made on both sides.
+#[derive(Clone, Copy, Debug)]
+pub enum Call<'a> {
+    Line(&'a [u8]),
+    Engine(u32, &'a [u32], &'a [u32]),
+    Status,
+    Marks,
+    /// A line with a reply buffer that is too small.
+    LineShort(&'a [u8]),
+    /// An engine or a status with figures that are too few.
+    EngineShort(u32, &'a [u32], &'a [u32]),
+    StatusShort,
+}
+
+impl fmt::Display for Call<'_> {
+    fn fmt(&self, f: &mut fmt::Formatter<'_>) -> fmt::Result {
+        match self {
+            Call::Line(line) => write!(f, "command \"{}\"", line.escape_ascii()),
+            Call::Engine(number, hcnox, co) => write!(f, "engine {number} {hcnox:?} {co:?}"),
+            Call::Status => write!(f, "status"),
+            Call::Marks => write!(f, "marks"),
+            Call::LineShort(line) => {
+                write!(f, "command, small reply \"{}\"", line.escape_ascii())
+            }
+            Call::EngineShort(number, hcnox, co) => {
+                write!(f, "engine, few figures {number} {hcnox:?} {co:?}")
+            }
+            Call::StatusShort => write!(f, "status, few figures"),
+        }
+    }
+}
+
+/// A lent buffer after the call.
+#[derive(Clone, PartialEq, Eq, Debug)]
+pub enum Lent {
+    Bytes(Vec<u8>),
+    Words(Vec<u64>),
+}
+
+/// All that a call tells but for the journal.
+#[derive(Clone, PartialEq, Eq, Debug)]
+pub struct Outcome {
+    /// The returned number: a length or a refusal.
+    pub returned: usize,
+    /// The count of bytes written, as told: a reply's length or that of the
+    /// marks.
+    pub written: usize,
+    pub lent: Lent,
+}
+
+impl Outcome {
+    pub fn bytes(returned: usize, written: usize, lent: Vec<u8>) -> Self {
+        Outcome {
+            returned,
+            written,
+            lent: Lent::Bytes(lent),
+        }
+    }
+
+    pub fn words(returned: u8, lent: Vec<u64>) -> Self {
+        Outcome {
+            returned: returned.into(),
+            written: 0,
+            lent: Lent::Words(lent),
+        }
+    }
+}
+
+impl fmt::Display for Outcome {
+    fn fmt(&self, f: &mut fmt::Formatter<'_>) -> fmt::Result {
+        write!(f, "returned {}, ", self.returned)?;
+        match &self.lent {
+            Lent::Words(words) => write!(f, "figures {words:?}"),
+            Lent::Bytes(bytes) => {
+                let (front, rest) = bytes.split_at(self.written.min(bytes.len()));
+                let front = front.escape_ascii();
+                write!(f, "wrote {}: \"{front}\", then {}", self.written, hex(rest))
+            }
+        }
+    }
+}
+
+/// Bytes as hexadecimal digits.
+pub fn hex(bytes: &[u8]) -> String {
+    bytes.iter().map(|byte| format!("{byte:02x}")).collect()
+}

@@ -1,0 +1,123 @@
+//! The calls, each made on both sides.
+
+use super::Twin;
+use crate::counts::Column;
+use crate::journal;
+use crate::library::{self, FIGURES};
+use crate::model::{self, Status};
+use crate::outcome::{Call, Outcome};
+
+impl Twin {
+    /// One key line; 0 or the refusal.
+    pub fn command(&mut self, line: &[u8]) -> u8 {
+        let call = Call::Line(line);
+        self.before(call);
+        let mut lent = self.reply_noise();
+        let mut expected = lent.clone();
+        let length = library::command(&mut self.library, line, &mut lent);
+        let front = expected.first_chunk_mut().expect("a whole reply");
+        let expected_length = model::key_line(&mut self.model, line, front);
+        let reply = expected[..expected_length].to_vec();
+        let refusal = refusal_of(&reply);
+        let found = Outcome::bytes(length, length, lent);
+        let wanted = Outcome::bytes(expected_length, expected_length, expected);
+        self.compare(call, &found, &wanted);
+        let letter = line.first().copied().unwrap_or(0);
+        if refusal != 0 || letter == b'L' {
+            self.expect_kept(call, &wanted);
+        }
+        self.counts.call(Column::of_letter(letter), refusal);
+        self.counts.reply(letter, &reply);
+        if b"SEAPX".contains(&letter) {
+            self.look();
+        }
+        refusal
+    }
+
+    /// Enters an engine; 0 or the refusal.
+    pub fn engine(&mut self, number: u32, hcnox: &[u32], co: &[u32]) -> u8 {
+        let call = Call::Engine(number, hcnox, co);
+        self.before(call);
+        let mut lent = self.figures_noise();
+        let expected = lent.clone();
+        let returned = library::engine_raw(&mut self.library, number, hcnox, co, &mut lent);
+        let answer = model::engine(&mut self.model, number, hcnox, co);
+        let wanted = figures(&answer, expected);
+        self.compare(call, &Outcome::words(returned, lent), &wanted);
+        if answer.is_err() {
+            self.expect_kept(call, &wanted);
+        }
+        let refusal = self.count(Column::Engine, &answer);
+        self.look();
+        refusal
+    }
+
+    /// Reads the status; 0 or the refusal.
+    pub fn status(&mut self) -> u8 {
+        self.before(Call::Status);
+        let mut lent = self.figures_noise();
+        let expected = lent.clone();
+        let returned = library::status_raw(&self.library, &mut lent);
+        let answer = model::status(&self.model);
+        let wanted = figures(&answer, expected);
+        self.compare(Call::Status, &Outcome::words(returned, lent), &wanted);
+        self.expect_kept(Call::Status, &wanted);
+        self.count(Column::Status, &answer)
+    }
+
+    /// Writes the marks into a buffer of this length; 0 or the refusal.
+    pub fn marks(&mut self, length: usize) -> u8 {
+        self.before(Call::Marks);
+        let mut lent = self.noise.bytes(length);
+        let mut expected = lent.clone();
+        let mut written = self.noise.below(1_000);
+        let returned = library::marks_raw(&self.library, &mut lent, &mut written);
+        let answer = model::strip(&self.model, &mut expected);
+        let refusal = answer.err().unwrap_or(0);
+        let expected_written = answer.unwrap_or(0);
+        let marks = expected[..expected_written].to_vec();
+        let found = Outcome::bytes(returned.into(), written, lent);
+        let wanted = Outcome::bytes(refusal.into(), expected_written, expected);
+        self.compare(Call::Marks, &found, &wanted);
+        self.expect_kept(Call::Marks, &wanted);
+        self.counts.call(Column::Marks, refusal);
+        self.counts.written(&marks);
+        refusal
+    }
+
+    /// Often reads back what an entry left.
+    fn look(&mut self) {
+        if self.noise.one_in(3) {
+            self.status();
+        }
+        if self.noise.one_in(5) {
+            let needed = 2 * journal::engines(&self.model);
+            let more = self.noise.below(4);
+            self.marks((needed + more).saturating_sub(1));
+        }
+    }
+
+    fn count(&mut self, column: Column, answer: &Result<Status, u8>) -> u8 {
+        let refusal = answer.err().unwrap_or(0);
+        self.counts.call(column, refusal);
+        if let Ok(status) = answer {
+            self.counts.status(status);
+        }
+        refusal
+    }
+}
+
+/// What an answer in figures should leave in a buffer of words.
+fn figures(answer: &Result<Status, u8>, mut lent: Vec<u64>) -> Outcome {
+    lent[..FIGURES].copy_from_slice(&library::words_of(answer));
+    Outcome::words(answer.err().unwrap_or(0), lent)
+}
+
+/// The number of a reply that refuses, else 0.
+fn refusal_of(reply: &[u8]) -> u8 {
+    let Some(digits) = reply.strip_prefix(b"NO ") else {
+        return 0;
+    };
+    let add = |number: u8, digit: &u8| 10 * number + (digit - b'0');
+    digits.iter().fold(0, add)
+}
