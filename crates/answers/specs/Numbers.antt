@@ -1,10 +1,13 @@
 -- An answer as numbers, for a caller in another language (document 01, "The book": "Status reads a book: n, verdict, and per pollutant S, s, e, both C, both H,
 -- N in tenths, mark").
 -- Assumes nothing.
+use mathlib.Core.Path.{_≡_}
 use mathlib.Core.List.{List, [], _∷_, _++_}
 use Prim.Native.Nat.{ℕ}
 use Rattle.statistics.specs.declared.SampleSize.{SampleSize}
 use Rattle.statistics.specs.declared.SampleSize.the-variants.{Tenths, Absent}
+use Rattle.statistics.specs.Spread.{Test}
+use Rattle.statistics.specs.SampleSize.{sampleSizeOf}
 use Rattle.cumsum.specs.Marks.{markByte}
 use Rattle.year.specs.declared.Figures.{Figures}
 use Rattle.year.specs.declared.Status.{Status}
@@ -23,3 +26,7 @@ pollutantNumbers f =
 -- twenty in all: n and the verdict, HC+NOx, CO
 unfoldable pub statusNumbers : Status → List ℕ
 statusNumbers s = (s .n ∷ s .verdict ∷ []) ++ pollutantNumbers (s .hcnox) ++ pollutantNumbers (s .co)
+
+-- 0 is told where there is no N, and nowhere else
+abbrev pub NoneApart : Type 0
+NoneApart = (h : List Test) → sizeNumber (sampleSizeOf h) ≡ 0 → sampleSizeOf h ≡ Absent

@@ -21,14 +21,7 @@ use Rattle.journal.specs.Read.{setupIn, eventIn, eventsIn}
 use Rattle.journal.specs.Acceptance.{isSlot, entersAt, entersUpTo}
 use Rattle.progress.specs.declared.Progress.{Progress as State}
 use Rattle.progress.specs.State.{shown, Consistent}
-use Rattle.scan.specs.Scan.{Tells, entered}
-
--- the setup is in range, the first slots were entered, and the state stands for their events
-pub record Entered (journal : List ℕ) (j : ℕ) (p : State) : Type 0 where
-  pub setup : setupInRange (setupIn journal) ≡ true
-  pub enters : entersUpTo journal j ≡ true
-  pub stands : shown p ≡ replay (setupIn journal) (eventsIn journal j)
-  pub consistent : Consistent p
+use Rattle.scan.specs.Scan.{Tells, Entered, entered}
 
 -- where one slot does not enter, the slots up to a later one do not
 later : (journal : List ℕ) (j n : ℕ) → j < n → entersAt journal j ≡ false → entersUpTo journal n ≡ true → ⊥

@@ -10,6 +10,7 @@ use Rattle.year.specs.Replay.{Progress, start, replay}
 use Rattle.year.specs.Model.{Model, NoSetup, Year, noSetup}
 use Rattle.journal.specs.Read.{setupIn, eventsIn}
 use Rattle.journal.specs.Acceptance.{entersUpTo}
+use Rattle.progress.specs.declared.Progress.{Progress as State}
 use Rattle.progress.specs.State.{shown, Consistent}
 use Rattle.scan.specs.declared.Scanned.{Scanned}
 
@@ -36,3 +37,10 @@ pub record Tells (r : Scanned) (model : Model) : Type 0 where
 -- the setup and the events of the first slots, if they could have been entered in that order
 unfoldable pub entered : List ℕ → ℕ → Model
 entered journal count = cond (setupInRange (setupIn journal) && entersUpTo journal count) (Year (setupIn journal) (eventsIn journal count)) NoSetup
+
+-- the setup is in range, the first slots were entered, and the state stands for their events
+pub record Entered (journal : List ℕ) (j : ℕ) (p : State) : Type 0 where
+  pub setup : setupInRange (setupIn journal) ≡ true
+  pub enters : entersUpTo journal j ≡ true
+  pub stands : shown p ≡ replay (setupIn journal) (eventsIn journal j)
+  pub consistent : Consistent p

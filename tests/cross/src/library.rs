@@ -1,6 +1,6 @@
 //! The library's four calls: the C declarations and safe wrappers of them.
 
-use crate::model::{Figures, Status};
+use crate::model::Status;
 
 unsafe extern "C" {
     fn plt_command(
@@ -46,7 +46,7 @@ pub const REPLY: usize = 96;
 /// Words that the figures need: n, verdict, nine for each pollutant.
 pub const FIGURES: usize = 20;
 
-/// What `engine_raw` and `status_raw` return if the figures are too few.
+/// What `engine` and `status` return if the figures are too few.
 pub const TOO_FEW: u8 = 255;
 
 /// One key line; the reply's length.
@@ -66,7 +66,7 @@ pub fn command(journal: &mut [u8], line: &[u8], reply: &mut [u8]) -> usize {
 }
 
 /// Enters an engine; 0 or the refusal.
-pub fn engine_raw(
+pub fn engine(
     journal: &mut [u8],
     number: u32,
     hcnox: &[u32],
@@ -89,17 +89,8 @@ pub fn engine_raw(
     }
 }
 
-/// Enters an engine; the status it leaves, or the refusal.
-pub fn engine(journal: &mut [u8], number: u32, hcnox: &[u32], co: &[u32]) -> Result<Status, u8> {
-    let mut figures = [0; FIGURES];
-    match engine_raw(journal, number, hcnox, co, &mut figures) {
-        0 => Ok(status_of(&figures)),
-        refusal => Err(refusal),
-    }
-}
-
 /// Reads the status; 0 or the refusal.
-pub fn status_raw(journal: &[u8], figures: &mut [u64]) -> u8 {
+pub fn status(journal: &[u8], figures: &mut [u64]) -> u8 {
     // SAFETY: as in `command`; the journal is only read.
     unsafe {
         plt_status(
@@ -111,18 +102,9 @@ pub fn status_raw(journal: &[u8], figures: &mut [u64]) -> u8 {
     }
 }
 
-/// Reads the status, or the refusal.
-pub fn status(journal: &[u8]) -> Result<Status, u8> {
-    let mut figures = [0; FIGURES];
-    match status_raw(journal, &mut figures) {
-        0 => Ok(status_of(&figures)),
-        refusal => Err(refusal),
-    }
-}
-
 /// Writes the marks; 0 or the refusal. `written` is set to the bytes written.
-pub fn marks_raw(journal: &[u8], out: &mut [u8], written: &mut usize) -> u8 {
-    // SAFETY: as in `status_raw`; `written` is one word.
+pub fn marks(journal: &[u8], out: &mut [u8], written: &mut usize) -> u8 {
+    // SAFETY: as in `status`; `written` is one word.
     unsafe {
         plt_marks(
             journal.as_ptr(),
@@ -131,40 +113,6 @@ pub fn marks_raw(journal: &[u8], out: &mut [u8], written: &mut usize) -> u8 {
             out.len(),
             written,
         )
-    }
-}
-
-/// Writes the marks; the number of bytes written, or the refusal.
-pub fn marks(journal: &[u8], out: &mut [u8]) -> Result<usize, u8> {
-    let mut written = 0;
-    match marks_raw(journal, out, &mut written) {
-        0 => Ok(written),
-        refusal => Err(refusal),
-    }
-}
-
-/// The status that twenty words stand for.
-pub fn status_of(words: &[u64; FIGURES]) -> Status {
-    let [n, verdict, rest @ ..] = *words;
-    let [hcnox, co] = [0, 9].map(|start| figures_of(&rest[start..start + 9]));
-    Status {
-        n,
-        verdict: verdict as u8,
-        pollutants: [hcnox, co],
-    }
-}
-
-fn figures_of(words: &[u64]) -> Figures {
-    Figures {
-        sum: words[0],
-        s: words[1],
-        e: words[2],
-        c_low: words[3],
-        c_high: words[4],
-        h_low: words[5],
-        h_high: words[6],
-        n_tenths: (words[7] != 0).then_some(words[7]),
-        mark: words[8] as u8,
     }
 }
 

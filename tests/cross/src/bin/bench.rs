@@ -104,7 +104,7 @@ fn status_row(name: &'static str, journal: &[u8]) -> Row {
     measure(
         name,
         || {
-            black_box(library::status_raw(black_box(journal), &mut figures));
+            black_box(library::status(black_box(journal), &mut figures));
         },
         || {
             let _ = black_box(model::status(black_box(journal)));
@@ -120,7 +120,7 @@ fn marks_row(name: &'static str, journal: &[u8]) -> Row {
         name,
         || {
             let journal = black_box(journal);
-            black_box(library::marks_raw(journal, &mut out, &mut written));
+            black_box(library::marks(journal, &mut out, &mut written));
         },
         || {
             let _ = black_box(model::strip(black_box(journal), &mut other_out));

@@ -16,13 +16,16 @@ const T95: [u64; 29] = [
 /// "165 from 31 on"
 const T95_BEYOND: u64 = 165;
 
-/// One pollutant, engine by engine, in work at `M`.
+/// "Fineness k is 1,024 in the calculator". k² × V <= 2^20 × 1.6e11 < 2^64.
+const FINENESS: u64 = 1_024;
+
+/// One pollutant, engine by engine.
 ///
 /// The fields are for reading: the bounds below hold for what `add` leaves.
 /// With n <= 40 and X, T <= 20,000:
 /// S <= 800,000, Q <= 1.6e10, V <= n² × 20,000² / 4 <= 1.6e11.
 #[derive(Clone, Copy, PartialEq, Eq, Debug)]
-pub struct Pollutant<const M: u64 = 1> {
+pub struct Pollutant {
     /// Engines so far.
     pub n: u64,
     /// S, the sum of X.
@@ -47,14 +50,7 @@ pub struct Pollutant<const M: u64 = 1> {
     pub unsettled: bool,
 }
 
-impl Pollutant {
-    /// No engine yet, in the calculator's own work (m = 1).
-    pub fn new() -> Self {
-        Self::default()
-    }
-}
-
-impl<const M: u64> Default for Pollutant<M> {
+impl Default for Pollutant {
     fn default() -> Self {
         Self {
             n: 0,
@@ -75,12 +71,11 @@ impl<const M: u64> Default for Pollutant<M> {
     }
 }
 
-impl<const M: u64> Pollutant<M> {
-    /// k. Up to m = 8, k² × V <= 2^26 × 1.6e11 < 1.1e19 stays below 2^64.
-    const FINENESS: u64 = {
-        assert!(1 <= M && M <= 8);
-        1_024 * M
-    };
+impl Pollutant {
+    /// No engine yet.
+    pub fn new() -> Self {
+        Self::default()
+    }
 
     /// Takes the next engine's result under the standard then in force.
     ///
@@ -106,7 +101,7 @@ impl<const M: u64> Pollutant<M> {
     /// V, s and e.
     fn take_spread(&mut self) {
         self.v = self.n * self.squares - self.sum * self.sum;
-        let scaled = Self::FINENESS * Self::FINENESS * self.v;
+        let scaled = FINENESS * FINENESS * self.v;
         let pairs = self.n * (self.n - 1);
         // The largest s with s² × pairs <= scaled is the root of the quotient.
         self.s = (scaled / pairs).isqrt();
@@ -114,10 +109,10 @@ impl<const M: u64> Pollutant<M> {
     }
 
     /// C and H. `max(0, a - b)` is a saturating difference of two sums, each
-    /// below 41 × 4k × 20,000 < 2.7e10 plus s, which is below 1.2e8.
+    /// below 41 × 4k × 20,000 < 3.4e9 plus s, which is below 1.5e7.
     fn take_brackets(&mut self, x: u64) {
-        let up = 4 * Self::FINENESS * x;
-        let down = 4 * Self::FINENESS * self.standard + self.s;
+        let up = 4 * FINENESS * x;
+        let down = 4 * FINENESS * self.standard + self.s;
         self.c_low = (self.c_low + up).saturating_sub(down + self.e);
         self.c_high = (self.c_high + up).saturating_sub(down);
         self.h_low = 20 * self.s;

@@ -40,7 +40,7 @@ impl Twin {
         self.before(call);
         let mut lent = self.figures_noise();
         let expected = lent.clone();
-        let returned = library::engine_raw(&mut self.library, number, hcnox, co, &mut lent);
+        let returned = library::engine(&mut self.library, number, hcnox, co, &mut lent);
         let answer = model::engine(&mut self.model, number, hcnox, co);
         let wanted = figures(&answer, expected);
         self.compare(call, &Outcome::words(returned, lent), &wanted);
@@ -57,7 +57,7 @@ impl Twin {
         self.before(Call::Status);
         let mut lent = self.figures_noise();
         let expected = lent.clone();
-        let returned = library::status_raw(&self.library, &mut lent);
+        let returned = library::status(&self.library, &mut lent);
         let answer = model::status(&self.model);
         let wanted = figures(&answer, expected);
         self.compare(Call::Status, &Outcome::words(returned, lent), &wanted);
@@ -71,7 +71,7 @@ impl Twin {
         let mut lent = self.noise.bytes(length);
         let mut expected = lent.clone();
         let mut written = self.noise.below(1_000);
-        let returned = library::marks_raw(&self.library, &mut lent, &mut written);
+        let returned = library::marks(&self.library, &mut lent, &mut written);
         let answer = model::strip(&self.model, &mut expected);
         let refusal = answer.err().unwrap_or(0);
         let expected_written = answer.unwrap_or(0);

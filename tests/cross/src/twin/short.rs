@@ -24,7 +24,7 @@ impl Twin {
         self.before(call);
         let mut lent = self.few_figures(length);
         let wanted = Outcome::words(TOO_FEW, lent.clone());
-        let returned = library::engine_raw(&mut self.library, number, hcnox, co, &mut lent);
+        let returned = library::engine(&mut self.library, number, hcnox, co, &mut lent);
         let found = Outcome::words(returned, lent);
         self.compare(call, &found, &wanted);
         self.counts.short();
@@ -35,7 +35,7 @@ impl Twin {
         self.before(Call::StatusShort);
         let mut lent = self.few_figures(length);
         let wanted = Outcome::words(TOO_FEW, lent.clone());
-        let returned = library::status_raw(&self.library, &mut lent);
+        let returned = library::status(&self.library, &mut lent);
         let found = Outcome::words(returned, lent);
         self.compare(Call::StatusShort, &found, &wanted);
         self.counts.short();
