@@ -17,7 +17,7 @@ fn number_at(numbers: [u16; 40], i: usize) -> u32
 }
 
 // The figures of the engines before a place, with the engine at that place.
-pub fn add_at(
+fn add_at(
     f: Running,
     results: [u16; 40],
     standards: [u16; 40],

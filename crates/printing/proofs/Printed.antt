@@ -2,22 +2,21 @@
 -- Assumes nothing.
 use mathlib.Core.Path.{_≡_, ap, _∙_}
 use mathlib.Core.List.{List, [], _∷_, _++_, map, map-append}
-use Prim.Native.Nat.{ℕ, suc, _+_, _*_, _≤_}
+use Prim.Native.Nat.{ℕ, suc, _+_, _*_, _≤_, _<_}
 use native.Mathlib.Numerals.{add-one}
 use native.Mathlib.Omega.{arith}
-use lib.ListN.{length, length-map}
+use lib.ListN.{length, getD, length-map}
 use Rattle.buffers.specs.Bytes.{put}
 use Rattle.buffers.proofs.Lists.{put-put, length-put}
 use Rattle.cumsum.specs.Marks.{mark, markByte}
-use Rattle.figures.specs.declared.Running.{Running}
-use Rattle.figures.specs.Running.{running}
 use Rattle.year.specs.Setup.{Pollutant, Hcnox, Co}
 use Rattle.year.specs.Replay.{history}
 use Rattle.year.specs.Status.{printedMarks}
 use Rattle.year.proofs.Kept.{printed-length}
 use Rattle.engines.specs.declared.Engines.{Engines}
-use Rattle.engines.specs.Engines.{resultsOf, standardsOf, testedTo, testsTo, ReworkInRange}
-use Rattle.engines.proofs.Arrays.{tested-length, tested-history, tested-fits, rework-few, rework-before}
+use Rattle.engines.specs.Engines.{resultsOf, standardsOf, testedTo, ReworkInRange}
+use Rattle.engines.proofs.Arrays.{tested-length, tested-history, tested-fits, rework-few}
+use Rattle.printing.specs.Columns.{MarkedTo}
 use Rattle.printing.specs.Ranges.{MarksInRange}
 
 module _ (k : ℕ) (e : Engines) where
@@ -25,20 +24,19 @@ module _ (k : ℕ) (e : Engines) where
   abbrev pub bytesTo : ℕ → List ℕ
   bytesTo i = map markByte (printedMarks k (testedTo e i))
 
-  -- a pollutant's figures of the engines before a place
-  abbrev pub WorkedTo : Pollutant → ℕ → Running → Type 0
-  WorkedTo q i f = f ≡ running k (testsTo (resultsOf q e) (standardsOf q e) i)
-
   -- the ranges, and how many engines there are
-  pub fits : MarksInRange e k → (q : Pollutant) (i : ℕ) → i ≤ e .count → ReworkInRange (resultsOf q e) (standardsOf q e) i k
-  fits m q i h = rework-before (resultsOf q e) (standardsOf q e) k (e .count) i h (tested-fits q e k (m .histories q) (m .fine))
+  pub fits : MarksInRange e k → (q : Pollutant) → ReworkInRange (resultsOf q e) (standardsOf q e) (e .count) k
+  fits m q = tested-fits q e k (m .histories q) (m .fine)
 
   pub few : MarksInRange e k → e .count ≤ 40
-  few m = rework-few (resultsOf Hcnox e) (standardsOf Hcnox e) k (e .count) (fits m Hcnox (e .count) (omega arith))
+  few m = rework-few (resultsOf Hcnox e) (standardsOf Hcnox e) k (e .count) (fits m Hcnox)
 
-  mark-is : (q : Pollutant) (i : ℕ) (f : Running) → WorkedTo q i f → f .mark ≡ mark k (history q (testedTo e i))
-  unfolding running
-  mark-is q i f w = rw (w, tested-history q e i)
+  -- a pollutant's column of marks, and the byte of an engine in it
+  abbrev pub ColumnOf : Pollutant → List ℕ → Type 0
+  ColumnOf q column = MarkedTo k (resultsOf q e) (standardsOf q e) (e .count) column
+
+  byte-is : (q : Pollutant) (column : List ℕ) → ColumnOf q column → (i : ℕ) → i < e .count → getD column i 0 ≡ markByte (mark k (history q (testedTo e (i + 1))))
+  byte-is q column m i h = rw tested-history (m i h)
 
   -- the bytes of the newest of these engines
   abbrev pair : ℕ → List ℕ
@@ -55,9 +53,9 @@ module _ (k : ℕ) (e : Engines) where
     pub length-printed : 2 * i ≤ length out → length printed ≡ length out
     length-printed h = rw p (length-put out 0 (bytesTo i) (omega (arith, length-bytes i)))
 
-    pub printed-next : (h o : Running) → WorkedTo Hcnox (i + 1) h → WorkedTo Co (i + 1) o
-        → put printed (2 * i) (markByte (h .mark) ∷ markByte (o .mark) ∷ []) ≡ put out 0 (bytesTo (i + 1))
-    printed-next h o wh wo =
+    pub printed-next : (h o : List ℕ) → ColumnOf Hcnox h → ColumnOf Co o → i < e .count
+        → put printed (2 * i) (getD h i 0 ∷ getD o i 0 ∷ []) ≡ put out 0 (bytesTo (i + 1))
+    printed-next h o mh mo l =
         let place : 2 * i ≡ 0 + length (bytesTo i) = omega (arith, length-bytes i) in
-        rw (mark-is Hcnox (i + 1) h wh, mark-is Co (i + 1) o wo, p, place, add-one i, bytes-next i)
+        rw (byte-is Hcnox h mh i l, byte-is Co o mo i l, p, place, add-one i, bytes-next i)
         (put-put out 0 (bytesTo i) (pair (suc i)) (omega arith))

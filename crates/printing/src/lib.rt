@@ -6,12 +6,18 @@ ghost use lib.ListN.{length};
 ghost use Rattle.buffers.specs.Bytes.{put};
 ghost use Rattle.cumsum.specs.Marks.{markByte};
 ghost use Rattle.year.specs.Status.{printedMarks};
-ghost use Rattle.engines.specs.Engines.{tested};
+ghost use Rattle.engines.specs.Engines.{tested, ReworkInRange};
+ghost use Rattle.printing.specs.Columns.{MarkedTo};
 ghost use Rattle.printing.specs.Ranges.{MarksInRange};
+use cumsum::Interval;
 use cumsum::Mark;
 use engines::Engines;
-use engines::rework::add_at;
-use figures::start;
+use estimates::summing::add_result;
+use estimates::summing::no_sums;
+use estimates::variance::deviation_of;
+use figures::limits::action_limit;
+use figures::limits::next_cumsum;
+use figures::marking::compare;
 
 // How a mark is written.
 pub fn mark_byte(m: Mark) -> u8
@@ -25,13 +31,37 @@ pub fn mark_byte(m: Mark) -> u8
     }
 }
 
-// Writes the two marks of one engine from a place on, HC+NOx then CO.
-fn print_pair(out: &mut [u8], place: usize, hcnox: Mark, co: Mark)
-    requires { ⌜ place + 2 ≤ length (now out) ⌝ }
-    ensures { λ _. ⌜ now (out .exit) ≡ put (now (out .entry)) place (markByte hcnox ∷ markByte co ∷ []) ⌝ }
+// The marks of one pollutant's engines as bytes, at any resolution. Only the sums and C go on from engine to engine: a mark needs no more, and all figures would
+// be copied by value at each engine.
+fn mark_column(results: [u16; 40], standards: [u16; 40], count: usize, resolution: u64) -> [u8; 40]
+    requires { ⌜ ReworkInRange results standards count resolution ⌝ }
+    ensures { λ r. ⌜ MarkedTo resolution results standards count r ⌝ }
 {
-    out[place] = mark_byte(hcnox);
-    out[place + 1] = mark_byte(co);
+    let mut column = [b'-'; 40];
+    let mut sums = no_sums();
+    let mut cumsum = Interval { low: 0, high: 0 };
+    let mut i = 0;
+    while i < count {
+        let result = results[i] as u32;
+        let standard = standards[i] as u32;
+        sums = add_result(sums, result);
+        if 2 <= sums.n {
+            let deviation = deviation_of(resolution, sums.n, sums.variation);
+            cumsum = next_cumsum(cumsum, resolution, result, standard, deviation);
+            column[i] = mark_byte(compare(cumsum, action_limit(deviation)));
+        }
+        i += 1;
+    }
+    column
+}
+
+// Writes the two marks of one engine from a place on, HC+NOx then CO.
+fn print_pair(out: &mut [u8], place: usize, hcnox: u8, co: u8)
+    requires { ⌜ place + 2 ≤ length (now out) ⌝ }
+    ensures { λ _. ⌜ now (out .exit) ≡ put (now (out .entry)) place (hcnox ∷ co ∷ []) ⌝ }
+{
+    out[place] = hcnox;
+    out[place + 1] = co;
 }
 
 // Writes the marks of all engines at the front of a lent buffer, in the order of entry. The rest of the buffer stays.
@@ -43,15 +73,11 @@ pub fn print_marks(engines: Engines, resolution: u64, out: &mut [u8])
     let hcnox_standards = engines.hcnox_standards;
     let co_results = engines.co_results;
     let co_standards = engines.co_standards;
-    let mut hcnox = start();
-    let mut co = start();
+    let hcnox = mark_column(hcnox_results, hcnox_standards, engines.count, resolution);
+    let co = mark_column(co_results, co_standards, engines.count, resolution);
     let mut i: usize = 0;
     while i < engines.count {
-        hcnox = add_at(hcnox, hcnox_results, hcnox_standards, i, resolution);
-        co = add_at(co, co_results, co_standards, i, resolution);
-        let hcnox_mark = hcnox.mark;
-        let co_mark = co.mark;
-        print_pair(out, 2 * i, hcnox_mark, co_mark);
+        print_pair(out, 2 * i, hcnox[i], co[i]);
         i += 1;
     }
 }
