@@ -5,8 +5,9 @@
    - a length of 0 still needs a valid pointer, not NULL (it is not read);
    - no two of the buffers lent to one call overlap, and nothing else reads or writes them until it returns.
 
-   The library keeps nothing between calls, allocates nothing, calls nothing outside itself, and returns from every call. Bad input is answered with the number
-   of its refusal, 1 to 16, of document 01. A refused call leaves every byte of the journal as it was. */
+   The library keeps nothing between calls, so calls on different buffers may run at once. It allocates nothing, calls nothing but memcpy and memset, which the
+   host has to have, and returns from every call; docs/PERFORMANCE.md has the stack that each needs. Bad input is answered with the number of its refusal in
+   document 01, 1 to 16. A refused call leaves every byte of the journal as it was. */
 #ifndef PLT_H
 #define PLT_H
 
