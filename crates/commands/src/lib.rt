@@ -30,12 +30,13 @@ fn reply_short(journal: &mut [u8], line: &[u8], out: &mut [u8]) -> usize
     }
 }
 
-// The reply to a line, at the front of any output with room for one, and how many bytes it has. A line of more than 64 bytes is refused by 1, and an empty one,
-// which has no letter, by 2.
-pub fn reply_into(journal: &mut [u8], line: &[u8], out: &mut [u8]) -> usize
-    requires { ⌜ 96 ≤ length (now out) ⌝ }
-    ensures { λ r. ⌜ Replied (now (out .entry)) (replyTo (now (line .entry)) (now (journal .entry))) (now (out .exit)) r ⌝ }
+// The reply to a line, at the front of the output, and how many bytes it has: always fewer than the output. A line of more than 64 bytes is refused by 1, and an
+// empty one, which has no letter, by 2.
+pub fn reply(journal: &mut [u8], line: &[u8], out: &mut [u8; 96]) -> usize
+    ensures { λ r. ⌜ r ≡ length (replyTo (now (line .entry)) (now (journal .entry))) ⌝ }
+    ensures { λ _. ⌜ now (out .exit) ≡ put (now (out .entry)) 0 (replyTo (now (line .entry)) (now (journal .entry))) ⌝ }
     ensures { λ _. ⌜ now (journal .exit) ≡ journalAfterLine (now (line .entry)) (now (journal .entry)) ⌝ }
+    ensures { λ r. ⌜ (r < 96) × (length (now (out .exit)) ≡ 96) ⌝ }
 {
     if 64 < line.len() {
         return write_refusal(1, out);
@@ -44,14 +45,4 @@ pub fn reply_into(journal: &mut [u8], line: &[u8], out: &mut [u8]) -> usize
         return write_refusal(2, out);
     }
     reply_short(journal, line, out)
-}
-
-// The reply to a line in an output that always has room for it: of 96 bytes, and every reply has fewer.
-pub fn reply(journal: &mut [u8], line: &[u8], out: &mut [u8; 96]) -> usize
-    ensures { λ r. ⌜ r ≡ length (replyTo (now (line .entry)) (now (journal .entry))) ⌝ }
-    ensures { λ _. ⌜ now (out .exit) ≡ put (now (out .entry)) 0 (replyTo (now (line .entry)) (now (journal .entry))) ⌝ }
-    ensures { λ _. ⌜ now (journal .exit) ≡ journalAfterLine (now (line .entry)) (now (journal .entry)) ⌝ }
-    ensures { λ r. ⌜ (r < 96) × (length (now (out .exit)) ≡ 96) ⌝ }
-{
-    reply_into(journal, line, out)
 }

@@ -1,27 +1,39 @@
 -- What an exported function leaves, where a lent slice is too short and where it is not. Assumes nothing.
-use mathlib.Core.Path.{_≡_, refl}
+use mathlib.Core.Path.{_≡_, refl, ap, _∙_}
 use mathlib.Core.List.{List}
-use Prim.Native.Nat.{ℕ, _≤_, _<_}
-use lib.ListN.{length}
+use Prim.Native.Nat.{ℕ, _+_, _≤_, _<_}
+use native.Mathlib.Omega.{arith}
+use lib.ListN.{length, take, drop}
+use lib.Seq.{take-at}
 use borrow.Author.Tests.{lt-ltb, le-ltb}
-use Rattle.buffers.specs.Bytes.{put}
+use Rattle.buffers.specs.Bytes.{put, zeros}
 use Rattle.reference.specs.Call.{Call}
 use Rattle.reference.specs.Answers.{answerOf, told, journalAfter}
 use Rattle.reference.specs.declared.Answer.{Answer}
 use Rattle.protocol.specs.Reply.{replyTo, journalAfterLine}
-use Rattle.replies.specs.Replied.{Replied}
+use Rattle.text.specs.Written.{Written}
 use Rattle.answers.specs.Numbers.{statusNumbers}
 use Rattle.plt.specs.Exports.{replyCount, replyLeft, lineLeft, refusalTold, figuresLeft, journalLeft}
+
+-- what was put at the front of a list is its front
+front-put : (xs bytes : List ℕ) → take (length bytes) (put xs 0 bytes) ≡ bytes
+unfolding put
+front-put xs bytes = take-at bytes (drop (0 + length bytes) xs) (length bytes) refl
 
 module _ (line journal out : List ℕ) where
   pub no-reply : length out < 96 → (0 ≡ replyCount line journal out) × ((out ≡ replyLeft line journal out) × (journal ≡ lineLeft line journal out))
   unfolding replyCount replyLeft lineLeft
   no-reply h = rw (lt-ltb (length out) 96 h) (refl, (refl, refl))
 
-  pub replied : (after left : List ℕ) (count : ℕ) → 96 ≤ length out → Replied out (replyTo line journal) after count × (left ≡ journalAfterLine line journal)
-      → (count ≡ replyCount line journal out) × ((after ≡ replyLeft line journal out) × (left ≡ lineLeft line journal out))
+  -- the front of the text is the reply, and is copied
+  pub replied : (text : List ℕ) (count : ℕ) (after : List ℕ) (end : ℕ) (left : List ℕ) → 96 ≤ length out → count ≡ length (replyTo line journal)
+      → text ≡ put (zeros 96) 0 (replyTo line journal) → left ≡ journalAfterLine line journal → Written out 0 (take count text) after end
+      → (end ≡ replyCount line journal out) × ((after ≡ replyLeft line journal out) × (left ≡ lineLeft line journal out))
   unfolding replyCount replyLeft lineLeft
-  replied after left count h (w, j) = rw (le-ltb (length out) 96 h) (w .size, (w .out, j))
+  replied text count after end left h c t j w =
+      let front : take count text ≡ replyTo line journal = rw (c, t) (front-put (zeros 96) (replyTo line journal)) in
+      let size : end ≡ length (replyTo line journal) = omega (arith, w .position, ap length front) in
+      rw (le-ltb (length out) 96 h) (size, (w .out ∙ ap (put out 0) front, j))
 
 module _ (call : Call) (journal figures : List ℕ) where
   pub not-told : length figures < 20

@@ -8,7 +8,8 @@ use answers::write_answer;
 use calls::enter_engine;
 use calls::read_status;
 use calls::write_marks;
-use commands::reply_into;
+use commands::reply;
+use text::put_bytes;
 
 // A key line, without its newline: the reply at the front of the output, and how many bytes it has. With under 96 bytes of output nothing is done, and 0 answered.
 #[no_mangle]
@@ -20,7 +21,9 @@ pub extern "C" fn plt_command(journal: &mut [u8], line: &[u8], out: &mut [u8]) -
     if out.len() < 96 {
         return 0;
     }
-    reply_into(journal, line, out)
+    let mut text = [0u8; 96];
+    let count = reply(journal, line, &mut text);
+    put_bytes(&text[..count], out, 0)
 }
 
 // An engine with its number and its readings for each pollutant: the refusal, 0 for none, and the figures of the year with it. With under twenty figures nothing is

@@ -72,34 +72,27 @@ fn enter_slots(journal: &[u8], count: usize, first: Progress) -> Scanned
         match e {
             Event::Engine {
                 number,
-                readings,
                 results,
+                ..
             } => {
                 let n = engines.count;
-                let standards = p.standards;
-                let hcnox = p.hcnox;
-                let co = p.co;
                 engines.count = n + 1;
                 engines.numbers[n] = number as u16;
                 engines.periods[n] = p.period as u8;
                 engines.hcnox_results[n] = results.hcnox as u16;
-                engines.hcnox_standards[n] = standards.hcnox as u16;
+                engines.hcnox_standards[n] = p.standards.hcnox as u16;
                 engines.co_results[n] = results.co as u16;
-                engines.co_standards[n] = standards.co as u16;
+                engines.co_standards[n] = p.standards.co as u16;
                 p.current += 1;
-                p.hcnox = add(hcnox, results.hcnox, standards.hcnox, 1024);
-                p.co = add(co, results.co, standards.co, 1024);
+                p.hcnox = add(p.hcnox, results.hcnox, p.standards.hcnox, 1024);
+                p.co = add(p.co, results.co, p.standards.co, 1024);
             }
-            Event::Amendment(standards) => {
-                p.standards = standards;
-            }
+            Event::Amendment(standards) => p.standards = standards,
             Event::NextPeriod => {
                 p.period += 1;
                 p.current = 0;
             }
-            Event::Declaration => {
-                p.declared = true;
-            }
+            Event::Declaration => p.declared = true,
         }
     }
     p.engines = engines;

@@ -165,80 +165,80 @@ module _ (c : tie.After-e Inv-loop μ-loop) where
   fit = engine-fits (state slot) (looped slot .loop .inv .2 .consistent) number readings results admitted-engine
 
 add-engines : tie.Need-add-engines Inv-loop μ-loop
-add-engines c = omega (arith, fit (c .before .before .before .before) .place)
+add-engines c = omega (arith, fit (c .before) .place)
 
 cast-engines : tie.Need-cast-engines Inv-loop μ-loop
-cast-engines c = omega (arith, fit (c .before .before .before .before) .number)
+cast-engines c = omega (arith, fit (c .before) .number)
 
 mul-engines : tie.Need-mul-engines Inv-loop μ-loop
-mul-engines c = omega (arith, fit (c .before .before .before .before) .place)
+mul-engines c = omega (arith, fit (c .before) .place)
 
 element-write-engines : tie.Need-element-write-engines Inv-loop μ-loop
-element-write-engines c = omega (arith, fit (c .before .before .before .before) .place)
+element-write-engines c = omega (arith, fit (c .before) .place)
 
 cast-engines-2 : tie.Need-cast-engines-2 Inv-loop μ-loop
-cast-engines-2 c = omega (arith, fit (c .before .before .before .before .before) .period)
+cast-engines-2 c = omega (arith, fit (c .before .before) .period)
 
 element-write-engines-2 : tie.Need-element-write-engines-2 Inv-loop μ-loop
-element-write-engines-2 c = omega (arith, fit (c .before .before .before .before .before) .place)
+element-write-engines-2 c = omega (arith, fit (c .before .before) .place)
 
 cast-engines-3 : tie.Need-cast-engines-3 Inv-loop μ-loop
-cast-engines-3 c = omega (arith, fit (c .before .before .before .before .before .before) .results Hcnox)
+cast-engines-3 c = omega (arith, fit (c .before .before .before) .results Hcnox)
 
 mul-engines-2 : tie.Need-mul-engines-2 Inv-loop μ-loop
-mul-engines-2 c = omega (arith, fit (c .before .before .before .before .before .before) .place)
+mul-engines-2 c = omega (arith, fit (c .before .before .before) .place)
 
 element-write-engines-3 : tie.Need-element-write-engines-3 Inv-loop μ-loop
-element-write-engines-3 c = omega (arith, fit (c .before .before .before .before .before .before) .place)
+element-write-engines-3 c = omega (arith, fit (c .before .before .before) .place)
 
 cast-engines-4 : tie.Need-cast-engines-4 Inv-loop μ-loop
-cast-engines-4 c = omega (arith, fit (c .before .before .before .before .before .before .before) .standards Hcnox)
+cast-engines-4 c = omega (arith, fit (c .before .before .before .before) .standards Hcnox)
 
 mul-engines-3 : tie.Need-mul-engines-3 Inv-loop μ-loop
-mul-engines-3 c = omega (arith, fit (c .before .before .before .before .before .before .before) .place)
+mul-engines-3 c = omega (arith, fit (c .before .before .before .before) .place)
 
 element-write-engines-4 : tie.Need-element-write-engines-4 Inv-loop μ-loop
-element-write-engines-4 c = omega (arith, fit (c .before .before .before .before .before .before .before) .place)
+element-write-engines-4 c = omega (arith, fit (c .before .before .before .before) .place)
 
 cast-engines-5 : tie.Need-cast-engines-5 Inv-loop μ-loop
-cast-engines-5 c = omega (arith, fit (c .before .before .before .before .before .before .before .before) .results Co)
+cast-engines-5 c = omega (arith, fit (c .before .before .before .before .before) .results Co)
 
 mul-engines-4 : tie.Need-mul-engines-4 Inv-loop μ-loop
-mul-engines-4 c = omega (arith, fit (c .before .before .before .before .before .before .before .before) .place)
+mul-engines-4 c = omega (arith, fit (c .before .before .before .before .before) .place)
 
 element-write-engines-5 : tie.Need-element-write-engines-5 Inv-loop μ-loop
-element-write-engines-5 c = omega (arith, fit (c .before .before .before .before .before .before .before .before) .place)
+element-write-engines-5 c = omega (arith, fit (c .before .before .before .before .before) .place)
 
 cast-engines-6 : tie.Need-cast-engines-6 Inv-loop μ-loop
-cast-engines-6 c = omega (arith, fit (c .before .before .before .before .before .before .before .before .before) .standards Co)
+cast-engines-6 c = omega (arith, fit (c .before .before .before .before .before .before) .standards Co)
 
 mul-engines-5 : tie.Need-mul-engines-5 Inv-loop μ-loop
-mul-engines-5 c = omega (arith, fit (c .before .before .before .before .before .before .before .before .before) .place)
+mul-engines-5 c = omega (arith, fit (c .before .before .before .before .before .before) .place)
 
 element-write-engines-6 : tie.Need-element-write-engines-6 Inv-loop μ-loop
-element-write-engines-6 c = omega (arith, fit (c .before .before .before .before .before .before .before .before .before) .place)
+element-write-engines-6 c = omega (arith, fit (c .before .before .before .before .before .before) .place)
 
 add-p-2 : tie.Need-add-p-2 Inv-loop μ-loop
-add-p-2 c = let k = slot (c .before .before .before .before .before .before .before .before .before .before) in omega (arith, current-le (state k) (looped k .loop .inv .2 .consistent))
+add-p-2 c = let k = slot (c .before .before .before .before .before .before .before) in omega (arith, current-le (state k) (looped k .loop .inv .2 .consistent))
 
 add-requires : tie.Need-add-requires Inv-loop μ-loop
 add-requires c κs =
-    let e = c .before .before .before .before .before .before .before .before .before .before in
+    let e = c .before .before .before .before .before .before .before in
     let k = slot e in
     result-fits (state k) (looped k .loop .inv .2 .consistent) (number e) (readings e) (results e) (admitted-engine e) Hcnox
 
 add-requires-2 : tie.Need-add-requires-2 Inv-loop μ-loop
 add-requires-2 c κs =
-    let e = c .before .before .before .before .before .before .before .before .before .before .before in
+    let e = c .before .before .before .before .before .before .before .before in
     let k = slot e in
     result-fits (state k) (looped k .loop .inv .2 .consistent) (number e) (readings e) (results e) (admitted-engine e) Co
 
 loop-less : tie.Need-loop-less Inv-loop μ-loop
-loop-less c = omega (arith, one-more (slot (c .before .before .before .before .before .before .before .before .before .before .before .before)))
+loop-less c = omega (arith, one-more (slot (c .before .before .before .before .before .before .before .before .before)))
 
 loop-again : tie.Need-loop-again Inv-loop μ-loop
 loop-again c =
-    let e = c .before .before .before .before .before .before .before .before .before .before .before .before in
+    let e = c .before .before .before .before .before .before .before .before .before in
     let k = slot e in
     let l = looped k .loop in
     let p = state k in
