@@ -1,59 +1,77 @@
 #!/usr/bin/env python3
 """board.py [ARCHIVE]: what a board has to give to libplt.a: the size of its code and tables, and the stack that each exported function needs at most.
 
-The stack is read off the machine code (objdump, x86-64): a function's own pushes and frame, and below them the deepest call that it makes. memcpy and memset are
-the host's own and count only by their return address."""
+The stack is read off the machine code (objdump, x86-64): a function's own pushes and frame, and below them the deepest call that it makes, or where it makes none
+the 128 bytes below the frame that the calling convention lets it use. memcpy and memset are the host's own and count only by their return address. What this way
+of counting cannot follow (a call through a pointer, a frame of no fixed size) ends it with an error."""
 import re
 import subprocess
 import sys
 
 HOST = {'memcpy', 'memset'}
+BELOW = 128
+
+
+class Function:
+    def __init__(self):
+        self.frame = 0
+        self.calls = set()
+        self.jumps = set()
+
+
+def read(line, last, function, name):
+    """One instruction, `last` the one before it."""
+    if re.search(r'\tpush\b', line):
+        function.frame += 8
+    frame = re.search(r'\tsub\s+\$0x([0-9a-f]+),%rsp', line)
+    if frame:
+        function.frame += int(frame.group(1), 16)
+    elif re.search(r'\t(sub|and|lea|mov)\b.*,%rsp$', line) and not re.search(r'\tlea\s+-?0x[0-9a-f]+\(%rsp\),%rsp', line):
+        raise SystemExit(f'{name} has a frame of no fixed size: {line.strip()}')
+    if re.search(r'\tcall\s+\*', line):
+        raise SystemExit(f'{name} calls through a pointer: {line.strip()}')
+    # a jump through a register is one into a table of places within the function, whose base was just added
+    if re.search(r'\tjmp\s+\*', line) and not re.search(r'\tadd\b', last):
+        raise SystemExit(f'{name} jumps through a pointer: {line.strip()}')
 
 
 def functions(archive):
-    """Each function's frame in bytes, and the functions that it calls, with whether its own frame is still there (a call) or gone (a jump)."""
     text = subprocess.run(['objdump', '-dr', '--no-show-raw-insn', archive], capture_output=True, text=True, check=True).stdout
     found, name, last = {}, None, ''
     for line in text.split('\n'):
         head = re.match(r'[0-9a-f]+ <(.+)>:$', line)
+        moved = re.search(r'R_X86_64_(?:PLT32|PC32)\s+(\S+?)(?:-0x[0-9a-f]+)?$', line)
         if head:
             name = head.group(1)
-            found[name] = [0, set()]
-            continue
-        moved = re.search(r'R_X86_64_(?:PLT32|PC32)\s+(\S+?)(?:-0x[0-9a-f]+)?$', line)
-        if moved and re.search(r'\b(call|jmp)\b', last):
-            found[name][1].add((moved.group(1).removeprefix('.text.'), 'call' in last))
-        elif re.search(r'\tcall\s+\*', line):
-            raise SystemExit(f'{name} calls through a pointer')
-        if re.search(r'\tpush\b', line):
-            found[name][0] += 8
-        frame = re.search(r'\tsub\s+\$0x([0-9a-f]+),%rsp', line)
-        if frame:
-            found[name][0] += int(frame.group(1), 16)
-        if line.strip() and not moved:
+            found[name] = Function()
+        elif moved and re.search(r'\t(call|jmp)\b', last):
+            kind = found[name].calls if '\tcall' in last else found[name].jumps
+            kind.add(moved.group(1).removeprefix('.text.'))
+        elif '\t' in line and not moved:
+            read(line, last, found[name], name)
             last = line
     return found
 
 
 def depth(found, name, above=()):
-    """The bytes below the return address that `name` needs."""
+    """The bytes below its return address that a function needs."""
+    if name in HOST:
+        return 0
     if name in above:
         raise SystemExit(f'{name} calls itself')
-    frame, calls = found[name]
-    deepest = frame
-    for callee, framed in calls:
-        below = 0 if callee in HOST else depth(found, callee, above + (name,))
-        deepest = max(deepest, (frame + 8 if framed else 0) + below)
-    return deepest
+    function = found[name]
+    within = [function.frame + 8 + depth(found, callee, above + (name,)) for callee in function.calls]
+    instead = [depth(found, callee, above + (name,)) for callee in function.jumps]
+    return max(within + instead + [function.frame + (0 if function.calls else BELOW)])
 
 
 def main():
     archive = sys.argv[1] if len(sys.argv) > 1 else 'target/staticlib/libplt.a'
     found = functions(archive)
-    sizes = subprocess.run(['size', archive], capture_output=True, text=True, check=True).stdout.split('\n')[1].split()
-    print(f'code and tables: {sizes[0]} bytes; variables: {int(sizes[1]) + int(sizes[2])} bytes')
-    host = sorted({callee for _, calls in found.values() for callee, _ in calls if callee in HOST})
-    print(f'needs of the host: {", ".join(host)}')
+    sizes = [line.split() for line in subprocess.run(['size', archive], capture_output=True, text=True, check=True).stdout.strip().split('\n')[1:]]
+    print(f'code and tables: {sum(int(row[0]) for row in sizes)} bytes; variables: {sum(int(row[1]) + int(row[2]) for row in sizes)} bytes')
+    needs = sorted({callee for function in found.values() for callee in function.calls | function.jumps if callee in HOST})
+    print(f'needs of the host: {", ".join(needs)}')
     for name in sorted(found):
         if name.startswith('plt_'):
             print(f'stack of {name}: {depth(found, name) + 8} bytes')

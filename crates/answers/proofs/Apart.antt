@@ -1,7 +1,7 @@
 -- A sample size in tenths is at least 10, so 0 tells that there is none. Assumes nothing.
 use mathlib.Core.Path.{_≡_, refl, sym, ap}
 use mathlib.Core.Bool.{Bool, true, false}
-use mathlib.Core.List.{List, [], _∷_}
+use mathlib.Core.List.{[], _∷_}
 use Prim.Native.Nat.{ℕ, _*_, _≤_, _<_}
 use native.Mathlib.Decide.{decLt}
 use native.Mathlib.Omega.{arith}
@@ -9,7 +9,7 @@ use lib.Dec.{eqb}
 use lib.ListN.{length}
 use borrow.Author.Tests.{eqb-true, eqb-false}
 use Rattle.statistics.specs.declared.SampleSize.the-variants.{Absent}
-use Rattle.statistics.specs.Spread.{Test, total, variation}
+use Rattle.statistics.specs.Spread.{total, variation}
 use Rattle.statistics.specs.SampleSize.{sampleSize}
 use Rattle.estimates.proofs.Sizes.{absent-few, absent-even, in-tenths}
 use Rattle.answers.specs.Numbers.{sizeNumber, NoneApart}

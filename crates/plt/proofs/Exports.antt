@@ -21,19 +21,20 @@ unfolding put
 front-put xs bytes = take-at bytes (drop (0 + length bytes) xs) (length bytes) refl
 
 module _ (line journal out : List ℕ) where
-  pub no-reply : length out < 96 → (0 ≡ replyCount line journal out) × ((out ≡ replyLeft line journal out) × (journal ≡ lineLeft line journal out))
+  pub no-reply : length out < 96
+      → (0 ≡ replyCount line journal out) × ((out ≡ replyLeft line journal out) × ((journal ≡ lineLeft line journal out) × (0 < 96)))
   unfolding replyCount replyLeft lineLeft
-  no-reply h = rw (lt-ltb (length out) 96 h) (refl, (refl, refl))
+  no-reply h = rw (lt-ltb (length out) 96 h) (refl, (refl, (refl, omega arith)))
 
   -- the front of the text is the reply, and is copied
   pub replied : (text : List ℕ) (count : ℕ) (after : List ℕ) (end : ℕ) (left : List ℕ) → 96 ≤ length out → count ≡ length (replyTo line journal)
-      → text ≡ put (zeros 96) 0 (replyTo line journal) → left ≡ journalAfterLine line journal → Written out 0 (take count text) after end
-      → (end ≡ replyCount line journal out) × ((after ≡ replyLeft line journal out) × (left ≡ lineLeft line journal out))
+      → text ≡ put (zeros 96) 0 (replyTo line journal) → left ≡ journalAfterLine line journal → count < 96 → Written out 0 (take count text) after end
+      → (end ≡ replyCount line journal out) × ((after ≡ replyLeft line journal out) × ((left ≡ lineLeft line journal out) × (end < 96)))
   unfolding replyCount replyLeft lineLeft
-  replied text count after end left h c t j w =
+  replied text count after end left h c t j few w =
       let front : take count text ≡ replyTo line journal = rw (c, t) (front-put (zeros 96) (replyTo line journal)) in
       let size : end ≡ length (replyTo line journal) = omega (arith, w .position, ap length front) in
-      rw (le-ltb (length out) 96 h) (size, (w .out ∙ ap (put out 0) front, j))
+      rw (le-ltb (length out) 96 h) (size, (w .out ∙ ap (put out 0) front, (j, omega arith)))
 
 module _ (call : Call) (journal figures : List ℕ) where
   pub not-told : length figures < 20

@@ -1,9 +1,10 @@
 -- What an exported function answers, and what it leaves in the slices lent to it. A slice may be too short for what is to be written at its front: then nothing
 -- is done. Else the answer is the call's own (document 01, "How far a contract must reach").
 -- Assumes nothing.
+use mathlib.Core.Path.{_≡_}
 use mathlib.Core.Bool.{cond}
 use mathlib.Core.List.{List}
-use Prim.Native.Nat.{ℕ}
+use Prim.Native.Nat.{ℕ, _<_}
 use lib.Dec.{ltb}
 use lib.ListN.{length}
 use Rattle.buffers.specs.Bytes.{put}
@@ -38,3 +39,8 @@ module _ (call : Call) (journal figures : List ℕ) where
 
   unfoldable pub journalLeft : List ℕ
   journalLeft = ifShort 20 figures journal (journalAfter call journal)
+
+-- 0 and 255 tell that a slice is too short, and nothing else
+pub record ShortApart : Type 0 where
+  pub reply : (line journal out : List ℕ) → replyCount line journal out ≡ 0 → length out < 96
+  pub figures : (call : Call) (journal figures : List ℕ) → refusalTold call journal figures ≡ 255 → length figures < 20

@@ -1,6 +1,7 @@
 // Production-line testing for programs in other languages: the key line, an engine's entry, status and the marks, on a lent journal. include/plt.h has the same
 // functions for C. A slice is a pointer and a length. Nothing is asked of what is lent, and every byte and number of it is promised.
 ghost use mathlib.Core.Path.{_≡_};
+ghost use Prim.Native.Nat.{_<_};
 ghost use Rattle.reference.specs.Call.{engineEntry, Enter, ReadStatus};
 ghost use Rattle.reference.specs.Answers.{outAfter, marksAnswer};
 ghost use Rattle.plt.specs.Exports.{replyCount, replyLeft, lineLeft, refusalTold, figuresLeft, journalLeft};
@@ -17,6 +18,7 @@ pub extern "C" fn plt_command(journal: &mut [u8], line: &[u8], out: &mut [u8]) -
     ensures { λ r. ⌜ r ≡ replyCount (now (line .entry)) (now (journal .entry)) (now (out .entry)) ⌝ }
     ensures { λ _. ⌜ now (out .exit) ≡ replyLeft (now (line .entry)) (now (journal .entry)) (now (out .entry)) ⌝ }
     ensures { λ _. ⌜ now (journal .exit) ≡ lineLeft (now (line .entry)) (now (journal .entry)) (now (out .entry)) ⌝ }
+    ensures { λ r. ⌜ r < 96 ⌝ }
 {
     if out.len() < 96 {
         return 0;

@@ -13,7 +13,7 @@ use Rattle.buffers.proofs.Tests.{and-true}
 use Rattle.year.specs.declared.Setup.{Setup}
 use Rattle.year.specs.declared.Event.{Event}
 use Rattle.year.specs.Setup.{setupInRange}
-use Rattle.year.specs.Replay.{start, after, replay}
+use Rattle.year.specs.Replay.{start, after}
 use Rattle.year.specs.Admissible.{admissible}
 use Rattle.year.specs.Model.{NoSetup, Year}
 use Rattle.journal.specs.Encode.{slotPlace}

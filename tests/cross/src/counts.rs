@@ -135,6 +135,9 @@ impl Counts {
                 missing.push(format!("refusal {refusal} of {}", NAMES[column]));
             }
         }
+        if self.short == 0 {
+            missing.push("a buffer too small for any answer".to_string());
+        }
         for (verdict, count) in self.verdicts.iter().enumerate() {
             if *count == 0 {
                 missing.push(format!("verdict {verdict}"));

@@ -43,7 +43,9 @@ pub fn call(twin: &mut Twin, random: &mut Random, rate: usize) -> u8 {
 pub fn call_on_wrong_length(twin: &mut Twin, random: &mut Random, rate: usize) {
     let kept = twin.journal().to_vec();
     let mut other = kept.clone();
-    other.resize(random.pick(&BAD_LENGTHS), 0);
+    let length = random.pick(&BAD_LENGTHS);
+    other.truncate(length);
+    other.extend(random.bytes(length - other.len()));
     twin.lend(&other);
     call(twin, random, rate);
     twin.lend(&kept);
@@ -194,11 +196,20 @@ pub fn marks(twin: &mut Twin, random: &mut Random) -> u8 {
     twin.marks(length)
 }
 
+fn any_line(journal: &[u8], random: &mut Random, rate: usize) -> Vec<u8> {
+    match random.below(6) {
+        0 => setup(random, rate).line(),
+        1 => engine_line(journal, random, rate),
+        2 => journal::line(b'A', &standards(random, rate)),
+        _ => vec![random.pick(b"PXL")],
+    }
+}
+
 /// A call with a buffer too small for any answer.
 fn short(twin: &mut Twin, random: &mut Random, rate: usize) -> u8 {
     match random.below(3) {
         0 => {
-            let line = engine_line(twin.journal(), random, rate);
+            let line = any_line(twin.journal(), random, rate);
             twin.command_short(&line, random.pick(&[0, 1, 95, 50]));
         }
         1 => {

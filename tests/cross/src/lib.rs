@@ -1,6 +1,7 @@
 //! Cross-check of the library `plt` with an independent model of it.
 
 pub mod aim;
+pub mod buffer;
 pub mod counts;
 pub mod drive;
 pub mod faults;

@@ -2,6 +2,8 @@
 
 use std::fmt;
 
+use crate::buffer::Buffer;
+
 /// A call made on both sides.
 #[derive(Clone, Copy, Debug)]
 pub enum Call<'a> {
@@ -34,11 +36,11 @@ impl fmt::Display for Call<'_> {
     }
 }
 
-/// A lent buffer after the call.
+/// A lent buffer after the call, with what stands around it.
 #[derive(Clone, PartialEq, Eq, Debug)]
 pub enum Lent {
-    Bytes(Vec<u8>),
-    Words(Vec<u64>),
+    Bytes(Buffer<u8>),
+    Words(Buffer<u64>),
 }
 
 /// All that a call tells but for the journal.
@@ -53,7 +55,7 @@ pub struct Outcome {
 }
 
 impl Outcome {
-    pub fn bytes(returned: usize, written: usize, lent: Vec<u8>) -> Self {
+    pub fn bytes(returned: usize, written: usize, lent: Buffer<u8>) -> Self {
         Outcome {
             returned,
             written,
@@ -61,7 +63,7 @@ impl Outcome {
         }
     }
 
-    pub fn words(returned: u8, lent: Vec<u64>) -> Self {
+    pub fn words(returned: u8, lent: Buffer<u64>) -> Self {
         Outcome {
             returned: returned.into(),
             written: 0,
@@ -74,11 +76,17 @@ impl fmt::Display for Outcome {
     fn fmt(&self, f: &mut fmt::Formatter<'_>) -> fmt::Result {
         write!(f, "returned {}, ", self.returned)?;
         match &self.lent {
-            Lent::Words(words) => write!(f, "figures {words:?}"),
+            Lent::Words(words) => {
+                let around = words.around();
+                write!(f, "figures {:?}, around them {around:?}", words.part())
+            }
             Lent::Bytes(bytes) => {
-                let (front, rest) = bytes.split_at(self.written.min(bytes.len()));
+                let part = bytes.part();
+                let (front, rest) = part.split_at(self.written.min(part.len()));
                 let front = front.escape_ascii();
-                write!(f, "wrote {}: \"{front}\", then {}", self.written, hex(rest))
+                write!(f, "wrote {}: \"{front}\", then {}", self.written, hex(rest))?;
+                let [before, after] = bytes.around().map(hex);
+                write!(f, ", around it {before} and {after}")
             }
         }
     }

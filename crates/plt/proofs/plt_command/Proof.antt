@@ -38,7 +38,7 @@ returns-2 c =
     let else = r .before .before .before in
     let a = else .before .before .before .before .args in
     let e = r .reply .ensures in
-    replied (a .line .now) (a .journal .now) (a .out .now) _ (r .reply .result) _ _ _ (else .if1 .left) (e .0) (e .1 .0) (e .1 .1 .0) (c .before .before .put-bytes .ensures)
+    replied (a .line .now) (a .journal .now) (a .out .now) _ (r .reply .result) _ _ _ (else .if1 .left) (e .0) (e .1 .0) (e .1 .1 .0) (e .1 .1 .1 .0) (c .before .before .put-bytes .ensures)
 
 pub plt-command-spec : {M : Type 1} → statement M
 plt-command-spec =

@@ -31,12 +31,12 @@ fn main() {
         assert!(model::status(journal).is_ok_and(|status| status.verdict < 6));
     }
     let rows = [
-        line_row("engine line, 1 reading", &ten, ENGINE_1),
-        line_row("engine line, 3 readings", &ten, ENGINE_3),
-        status_row("status, 10 engines", &ten),
-        status_row("status, 40 engines, 64 events", &full),
-        marks_row("marks, 40 engines, 64 events", &full),
-        line_row("setup line", &ten, SETUP),
+        line_row("engine command, 1 reading", &ten, ENGINE_1),
+        line_row("engine command, 3 readings", &ten, ENGINE_3),
+        status_row("status of ten engines", &ten),
+        status_row("scan of a full journal (status)", &full),
+        marks_row("marks of a full journal", &full),
+        line_row("setup command", &ten, SETUP),
         line_row("refused line", &ten, REFUSED),
     ];
     print(&rows);
@@ -101,7 +101,7 @@ fn take_back(journal: &mut [u8], count: u8) {
 
 fn status_row(name: &'static str, journal: &[u8]) -> Row {
     let mut figures = [0; FIGURES];
-    measure(
+    let row = measure(
         name,
         || {
             black_box(library::status(black_box(journal), &mut figures));
@@ -109,14 +109,16 @@ fn status_row(name: &'static str, journal: &[u8]) -> Row {
         || {
             let _ = black_box(model::status(black_box(journal)));
         },
-    )
+    );
+    assert_eq!(figures, library::words_of(&model::status(journal)));
+    row
 }
 
 fn marks_row(name: &'static str, journal: &[u8]) -> Row {
     let mut out = [0; 80];
     let mut other_out = [0; 80];
     let mut written = 0;
-    measure(
+    let row = measure(
         name,
         || {
             let journal = black_box(journal);
@@ -125,7 +127,9 @@ fn marks_row(name: &'static str, journal: &[u8]) -> Row {
         || {
             let _ = black_box(model::strip(black_box(journal), &mut other_out));
         },
-    )
+    );
+    assert_eq!(out, other_out);
+    row
 }
 
 /// The median nanoseconds per call of each side, over batches by turns.

@@ -1,6 +1,7 @@
 //! The calls, each made on both sides.
 
 use super::Twin;
+use crate::buffer::Buffer;
 use crate::counts::Column;
 use crate::journal;
 use crate::library::{self, FIGURES};
@@ -14,14 +15,18 @@ impl Twin {
         self.before(call);
         let mut lent = self.reply_noise();
         let mut expected = lent.clone();
-        let length = library::command(&mut self.library, line, &mut lent);
-        let front = expected.first_chunk_mut().expect("a whole reply");
-        let expected_length = model::key_line(&mut self.model, line, front);
-        let reply = expected[..expected_length].to_vec();
+        let copy = self.line_copy(line);
+        let given = copy.clone();
+        let length = library::command(self.library.part_mut(), copy.part(), lent.part_mut());
+        let front = expected.part_mut().first_chunk_mut();
+        let front = front.expect("a whole reply");
+        let expected_length = model::key_line(self.model.part_mut(), line, front);
+        let reply = expected.part()[..expected_length].to_vec();
         let refusal = refusal_of(&reply);
         let found = Outcome::bytes(length, length, lent);
         let wanted = Outcome::bytes(expected_length, expected_length, expected);
         self.compare(call, &found, &wanted);
+        self.expect_read(call, &wanted, &copy, &given);
         let letter = line.first().copied().unwrap_or(0);
         if refusal != 0 || letter == b'L' {
             self.expect_kept(call, &wanted);
@@ -40,10 +45,14 @@ impl Twin {
         self.before(call);
         let mut lent = self.figures_noise();
         let expected = lent.clone();
-        let returned = library::engine(&mut self.library, number, hcnox, co, &mut lent);
-        let answer = model::engine(&mut self.model, number, hcnox, co);
+        let copy = (hcnox.to_vec(), co.to_vec());
+        let given = copy.clone();
+        let journal = self.library.part_mut();
+        let returned = library::engine(journal, number, &copy.0, &copy.1, lent.part_mut());
+        let answer = model::engine(self.model.part_mut(), number, hcnox, co);
         let wanted = figures(&answer, expected);
         self.compare(call, &Outcome::words(returned, lent), &wanted);
+        self.expect_read(call, &wanted, &copy, &given);
         if answer.is_err() {
             self.expect_kept(call, &wanted);
         }
@@ -57,8 +66,8 @@ impl Twin {
         self.before(Call::Status);
         let mut lent = self.figures_noise();
         let expected = lent.clone();
-        let returned = library::status(&self.library, &mut lent);
-        let answer = model::status(&self.model);
+        let returned = library::status(self.library.part(), lent.part_mut());
+        let answer = model::status(self.model.part());
         let wanted = figures(&answer, expected);
         self.compare(Call::Status, &Outcome::words(returned, lent), &wanted);
         self.expect_kept(Call::Status, &wanted);
@@ -68,14 +77,14 @@ impl Twin {
     /// Writes the marks into a buffer of this length; 0 or the refusal.
     pub fn marks(&mut self, length: usize) -> u8 {
         self.before(Call::Marks);
-        let mut lent = self.noise.bytes(length);
+        let mut lent = self.byte_noise(length);
         let mut expected = lent.clone();
         let mut written = self.noise.below(1_000);
-        let returned = library::marks(&self.library, &mut lent, &mut written);
-        let answer = model::strip(&self.model, &mut expected);
+        let returned = library::marks(self.library.part(), lent.part_mut(), &mut written);
+        let answer = model::strip(self.model.part(), expected.part_mut());
         let refusal = answer.err().unwrap_or(0);
         let expected_written = answer.unwrap_or(0);
-        let marks = expected[..expected_written].to_vec();
+        let marks = expected.part()[..expected_written].to_vec();
         let found = Outcome::bytes(returned.into(), written, lent);
         let wanted = Outcome::bytes(refusal.into(), expected_written, expected);
         self.compare(Call::Marks, &found, &wanted);
@@ -91,7 +100,7 @@ impl Twin {
             self.status();
         }
         if self.noise.one_in(5) {
-            let needed = 2 * journal::engines(&self.model);
+            let needed = 2 * journal::engines(self.model.part());
             let more = self.noise.below(4);
             self.marks((needed + more).saturating_sub(1));
         }
@@ -108,8 +117,8 @@ impl Twin {
 }
 
 /// What an answer in figures should leave in a buffer of words.
-fn figures(answer: &Result<Status, u8>, mut lent: Vec<u64>) -> Outcome {
-    lent[..FIGURES].copy_from_slice(&library::words_of(answer));
+fn figures(answer: &Result<Status, u8>, mut lent: Buffer<u64>) -> Outcome {
+    lent.part_mut()[..FIGURES].copy_from_slice(&library::words_of(answer));
     Outcome::words(answer.err().unwrap_or(0), lent)
 }
 

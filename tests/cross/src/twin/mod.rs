@@ -5,6 +5,7 @@ mod short;
 
 use std::process;
 
+use crate::buffer::{AFTER, BEFORE, Buffer};
 use crate::counts::Counts;
 use crate::journal;
 use crate::library::{FIGURES, REPLY};
@@ -20,8 +21,8 @@ pub struct Twin {
     noise: Random,
     /// The journal before the call, and on each side.
     kept: Vec<u8>,
-    library: Vec<u8>,
-    model: Vec<u8>,
+    library: Buffer<u8>,
+    model: Buffer<u8>,
 }
 
 impl Twin {
@@ -34,8 +35,8 @@ impl Twin {
             trace,
             noise: Random::new(0),
             kept: Vec::new(),
-            library: Vec::new(),
-            model: Vec::new(),
+            library: Buffer::new(vec![0; AFTER], 0),
+            model: Buffer::new(vec![0; AFTER], 0),
         }
     }
 
@@ -52,15 +53,14 @@ impl Twin {
         if self.trace {
             println!("journal, {} bytes: {}", journal.len(), hex(journal));
         }
-        for side in [&mut self.library, &mut self.model] {
-            side.clear();
-            side.extend_from_slice(journal);
-        }
+        self.library = self.byte_noise(journal.len());
+        self.library.part_mut().copy_from_slice(journal);
+        self.model = self.library.clone();
     }
 
     /// The journal as it is now on both sides.
     pub fn journal(&self) -> &[u8] {
-        &self.model
+        self.model.part()
     }
 
     /// Keeps the journal as it is before a call.
@@ -69,19 +69,39 @@ impl Twin {
             println!("{call}");
         }
         self.kept.clear();
-        self.kept.extend_from_slice(&self.model);
+        self.kept.extend_from_slice(self.model.part());
     }
 
-    /// Random bytes for a reply, sometimes more than needed.
-    fn reply_noise(&mut self) -> Vec<u8> {
+    /// A buffer of so many random bytes, at any address.
+    fn byte_noise(&mut self, length: usize) -> Buffer<u8> {
+        let start = self.noise.below(BEFORE + 1);
+        Buffer::new(self.noise.bytes(start + length + AFTER), start)
+    }
+
+    /// A buffer of so many random words.
+    fn word_noise(&mut self, length: usize) -> Buffer<u64> {
+        let start = self.noise.below(3);
+        let words = (0..start + length + AFTER).map(|_| self.noise.word());
+        Buffer::new(words.collect(), start)
+    }
+
+    /// Random bytes for a reply, now and then more than needed.
+    fn reply_noise(&mut self) -> Buffer<u8> {
         let more = self.surplus(40);
-        self.noise.bytes(REPLY + more)
+        self.byte_noise(REPLY + more)
     }
 
-    /// Random words for the figures, sometimes more than needed.
-    fn figures_noise(&mut self) -> Vec<u64> {
+    /// Random words for the figures, now and then more than needed.
+    fn figures_noise(&mut self) -> Buffer<u64> {
         let more = self.surplus(6);
-        (0..FIGURES + more).map(|_| self.noise.word()).collect()
+        self.word_noise(FIGURES + more)
+    }
+
+    /// A line to be lent to the library, at any address.
+    fn line_copy(&mut self, line: &[u8]) -> Buffer<u8> {
+        let mut copy = self.byte_noise(line.len());
+        copy.part_mut().copy_from_slice(line);
+        copy
     }
 
     fn surplus(&mut self, bound: usize) -> usize {
@@ -103,8 +123,15 @@ impl Twin {
 
     /// A refused call and one that only reads leave the journal as it was.
     fn expect_kept(&self, call: Call, outcome: &Outcome) {
-        if self.model != self.kept {
+        if self.model.part() != self.kept {
             self.differ("the journal was changed", call, outcome, outcome);
+        }
+    }
+
+    /// What the library was lent only to read is as it was.
+    fn expect_read<T: PartialEq>(&self, call: Call, outcome: &Outcome, copy: &T, given: &T) {
+        if copy != given {
+            self.differ("an argument was changed", call, outcome, outcome);
         }
     }
 
@@ -114,8 +141,14 @@ impl Twin {
         println!("call: {call}");
         println!("journal before, {} bytes:", self.kept.len());
         println!("  {}", hex(&self.kept));
-        println!("library: {library}\n  journal {}", hex(&self.library));
-        println!("model:   {model}\n  journal {}", hex(&self.model));
+        for (side, outcome, journal) in [
+            ("library", library, &self.library),
+            ("model", model, &self.model),
+        ] {
+            let [before, after] = journal.around().map(hex);
+            println!("{side}: {outcome}\n  journal {}", hex(journal.part()));
+            println!("  around it {before} and {after}");
+        }
         process::exit(1);
     }
 }

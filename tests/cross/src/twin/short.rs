@@ -2,6 +2,7 @@
 //! fixed number and do nothing at all.
 
 use super::Twin;
+use crate::buffer::Buffer;
 use crate::library::{self, FIGURES, REPLY, TOO_FEW};
 use crate::outcome::{Call, Outcome};
 
@@ -10,9 +11,9 @@ impl Twin {
     pub fn command_short(&mut self, line: &[u8], length: usize) {
         let call = Call::LineShort(line);
         self.before(call);
-        let mut lent = self.noise.bytes(length.min(REPLY - 1));
+        let mut lent = self.byte_noise(length.min(REPLY - 1));
         let wanted = Outcome::bytes(0, 0, lent.clone());
-        let returned = library::command(&mut self.library, line, &mut lent);
+        let returned = library::command(self.library.part_mut(), line, lent.part_mut());
         let found = Outcome::bytes(returned, 0, lent);
         self.compare(call, &found, &wanted);
         self.counts.short();
@@ -24,7 +25,8 @@ impl Twin {
         self.before(call);
         let mut lent = self.few_figures(length);
         let wanted = Outcome::words(TOO_FEW, lent.clone());
-        let returned = library::engine(&mut self.library, number, hcnox, co, &mut lent);
+        let journal = self.library.part_mut();
+        let returned = library::engine(journal, number, hcnox, co, lent.part_mut());
         let found = Outcome::words(returned, lent);
         self.compare(call, &found, &wanted);
         self.counts.short();
@@ -35,15 +37,13 @@ impl Twin {
         self.before(Call::StatusShort);
         let mut lent = self.few_figures(length);
         let wanted = Outcome::words(TOO_FEW, lent.clone());
-        let returned = library::status(&self.library, &mut lent);
+        let returned = library::status(self.library.part(), lent.part_mut());
         let found = Outcome::words(returned, lent);
         self.compare(Call::StatusShort, &found, &wanted);
         self.counts.short();
     }
 
-    fn few_figures(&mut self, length: usize) -> Vec<u64> {
-        let mut words = self.figures_noise();
-        words.truncate(length.min(FIGURES - 1));
-        words
+    fn few_figures(&mut self, length: usize) -> Buffer<u64> {
+        self.word_noise(length.min(FIGURES - 1))
     }
 }

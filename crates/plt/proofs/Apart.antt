@@ -1,0 +1,85 @@
+-- Every reply has two bytes or more, and every refusal is at most 16: so 0 and 255 tell of a slice that is too short, and of nothing else. Assumes nothing.
+use mathlib.Core.Path.{_≡_}
+use mathlib.Core.List.{List, [], _∷_}
+use Prim.Native.Nat.{ℕ, _≤_, _<_}
+use native.Mathlib.Decide.{decLt}
+use native.Mathlib.Omega.{arith}
+use lib.Dec.{eqb}
+use lib.ListN.{length}
+use borrow.Author.Tests.{le-ltb}
+use Rattle.buffers.specs.Rows.{Row, first}
+use Rattle.buffers.proofs.Tests.{by-test}
+use Rattle.year.specs.Model.{Model}
+use Rattle.journal.specs.Read.{readJournal}
+use Rattle.reference.specs.declared.Answer.{Answer}
+use Rattle.reference.specs.declared.Answer.the-variants.{Accepted, Refused}
+use Rattle.reference.specs.Call.{Call, SetUp, Enter, ReadStatus, WriteMarks}
+use Rattle.reference.specs.Refusals.{refusals, refusal}
+use Rattle.reference.specs.Answers.{refusalOn, answer, markBytes, told}
+use Rattle.protocol.specs.KeyLine.{Command, Make, Refuse, commandOf}
+use Rattle.protocol.specs.Reply.{marksReply, answerReply, callReply, commandReply, replyTo}
+use Rattle.plt.specs.Exports.{replyCount, refusalTold, ShortApart}
+
+-- ---- a reply
+
+marks-long : (bytes : List ℕ) → 2 ≤ length (marksReply bytes)
+marks-long [] = omega arith
+marks-long (b ∷ bs) = omega arith
+
+answer-long : (a : Answer) → 2 ≤ length (answerReply a)
+answer-long (Accepted s) = omega arith
+answer-long (Refused number) = omega arith
+
+call-long : (call : Call) (journal : List ℕ) → 2 ≤ length (callReply call journal)
+call-long (SetUp s) journal = answer-long (answer (SetUp s) journal)
+call-long (Enter entry) journal = answer-long (answer (Enter entry) journal)
+call-long ReadStatus journal = answer-long (answer ReadStatus journal)
+call-long (WriteMarks size) journal =
+    by-test (λ (bytes : List ℕ). 2 ≤ length bytes) (eqb (refusalOn (WriteMarks size) journal) 0) _ _
+    (λ _. marks-long (markBytes (readJournal journal))) (λ _. omega arith)
+
+command-long : (command : Command) (journal : List ℕ) → 2 ≤ length (commandReply command journal)
+command-long (Make call) journal = call-long call journal
+command-long (Refuse number) journal = omega arith
+
+reply-long : (line journal : List ℕ) → 2 ≤ length (replyTo line journal)
+unfolding replyTo
+reply-long line journal = command-long (commandOf line) journal
+
+-- ---- a refusal
+
+-- every number of a table is at most so much, and so is the one that is taken
+abbrev UpTo : ℕ → List Row → Type 0
+UpTo most [] = Unit {0}
+UpTo most (row ∷ rows) = (row .1 ≤ most) × UpTo most rows
+
+first-up-to : (most : ℕ) (rows : List Row) → UpTo most rows → first rows 0 ≤ most
+first-up-to most [] u = omega arith
+first-up-to most (row ∷ rows) u = by-test (λ (n : ℕ). n ≤ most) (row .0) (row .1) (first rows 0) (λ _. u .0) (λ _. first-up-to most rows (u .1))
+
+refusals-up-to : (size : ℕ) (call : Call) (model : Model) → UpTo 16 (refusals size call model)
+unfolding refusals
+refusals-up-to size call model = omega arith
+
+refusal-up-to : (call : Call) (journal : List ℕ) → told call journal .refusal ≤ 16
+unfolding told refusal
+refusal-up-to call journal = first-up-to 16 (refusals (length journal) call (readJournal journal)) (refusals-up-to (length journal) call (readJournal journal))
+
+-- ---- both
+
+reply-apart : (line journal out : List ℕ) → Dec (length out < 96) → replyCount line journal out ≡ 0 → length out < 96
+unfolding replyCount
+reply-apart line journal out (yes l) e = l
+reply-apart line journal out (no f) e = absurd (omega (arith, reply-long line journal, rw (le-ltb (length out) 96 (omega arith)) at e))
+
+figures-apart : (call : Call) (journal figures : List ℕ) → Dec (length figures < 20) → refusalTold call journal figures ≡ 255 → length figures < 20
+unfolding refusalTold
+figures-apart call journal figures (yes l) e = l
+figures-apart call journal figures (no f) e = absurd (omega (arith, refusal-up-to call journal, rw (le-ltb (length figures) 20 (omega arith)) at e))
+
+pub short-apart : ShortApart
+short-apart =
+    record {
+      reply = λ line journal out. reply-apart line journal out (decLt (length out) 96);
+      figures = λ call journal figures. figures-apart call journal figures (decLt (length figures) 20);
+    }

@@ -1,0 +1,41 @@
+//! A buffer to be lent: a part of a longer one, from any place on. What
+//! stands around the part is nobody's to read or write.
+
+/// The most that stands before the part, and what stands after it.
+pub const BEFORE: usize = 15;
+pub const AFTER: usize = 16;
+
+#[derive(Clone, PartialEq, Eq, Debug)]
+pub struct Buffer<T> {
+    whole: Vec<T>,
+    start: usize,
+    length: usize,
+}
+
+impl<T: Copy> Buffer<T> {
+    /// The part of `whole` from a place on, so long that `AFTER` are left.
+    pub fn new(whole: Vec<T>, start: usize) -> Self {
+        let length = whole.len() - start - AFTER;
+        Buffer {
+            whole,
+            start,
+            length,
+        }
+    }
+
+    pub fn part(&self) -> &[T] {
+        &self.whole[self.start..self.start + self.length]
+    }
+
+    pub fn part_mut(&mut self) -> &mut [T] {
+        &mut self.whole[self.start..self.start + self.length]
+    }
+
+    /// What stands before the part, and after it.
+    pub fn around(&self) -> [&[T]; 2] {
+        [
+            &self.whole[..self.start],
+            &self.whole[self.start + self.length..],
+        ]
+    }
+}
