@@ -18,7 +18,7 @@ use Rattle.reference.specs.Refusals.{refusals, refusal}
 use Rattle.reference.specs.Answers.{refusalOn, answer, markBytes, told}
 use Rattle.protocol.specs.KeyLine.{Command, Make, Refuse, commandOf}
 use Rattle.protocol.specs.Reply.{marksReply, answerReply, callReply, commandReply, replyTo}
-use Rattle.plt.specs.Exports.{replyCount, refusalTold, ShortApart}
+use Rattle.plt.specs.Exports.{ifShort, replyCount, refusalTold, ShortApart}
 
 -- ---- a reply
 
@@ -67,19 +67,21 @@ refusal-up-to call journal = first-up-to 16 (refusals (length journal) call (rea
 
 -- ---- both
 
-reply-apart : (line journal out : List ℕ) → Dec (length out < 96) → replyCount line journal out ≡ 0 → length out < 96
-unfolding replyCount
-reply-apart line journal out (yes l) e = l
-reply-apart line journal out (no f) e = absurd (omega (arith, reply-long line journal, rw (le-ltb (length out) 96 (omega arith)) at e))
+-- what is never answered of a slice with room tells one that is too short
+apart : (size : ℕ) (lent : List ℕ) (short long : ℕ) → (long ≡ short → ⊥) → ifShort size lent short long ≡ short → length lent < size
+apart size lent short long f e = by (decLt (length lent) size)
+  where
+    by : Dec (length lent < size) → length lent < size
+    by (yes l) = l
+    by (no g) = absurd (f (rw (le-ltb (length lent) size (omega arith)) at e))
 
-figures-apart : (call : Call) (journal figures : List ℕ) → Dec (length figures < 20) → refusalTold call journal figures ≡ 255 → length figures < 20
+reply-apart : (line journal out : List ℕ) → replyCount line journal out ≡ 0 → length out < 96
+unfolding replyCount
+reply-apart line journal out = apart 96 out 0 (length (replyTo line journal)) (λ e. omega (arith, reply-long line journal))
+
+figures-apart : (call : Call) (journal figures : List ℕ) → refusalTold call journal figures ≡ 255 → length figures < 20
 unfolding refusalTold
-figures-apart call journal figures (yes l) e = l
-figures-apart call journal figures (no f) e = absurd (omega (arith, refusal-up-to call journal, rw (le-ltb (length figures) 20 (omega arith)) at e))
+figures-apart call journal figures = apart 20 figures 255 (told call journal .refusal) (λ e. omega (arith, refusal-up-to call journal))
 
 pub short-apart : ShortApart
-short-apart =
-    record {
-      reply = λ line journal out. reply-apart line journal out (decLt (length out) 96);
-      figures = λ call journal figures. figures-apart call journal figures (decLt (length figures) 20);
-    }
+short-apart = record { reply = reply-apart; figures = figures-apart }
