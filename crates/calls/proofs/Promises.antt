@@ -11,6 +11,7 @@ use Rattle.year.specs.declared.Setup.{Setup}
 use Rattle.year.specs.declared.Status.{Status}
 use Rattle.year.specs.Setup.{setupInRange}
 use Rattle.year.specs.Replay.{Progress, start}
+use Rattle.year.specs.Setup.{judged}
 use Rattle.year.specs.Status.{status, printedMarks}
 use Rattle.year.specs.Model.{noSetup}
 use Rattle.progress.specs.State.{shown, Consistent}
@@ -88,8 +89,8 @@ module _ (journal : List ℕ) (scanned : Scanned) (t : Tells scanned (readJourna
       consistent : Consistent (scanned .progress)
       consistent = told-consistent scanned (readJournal journal) t held
 
-      bytes : markBytes (readJournal journal) ≡ map markByte (printedMarks 1024 (tested (scanned .progress .engines)))
-      bytes = told-is scanned (readJournal journal) t held markBytes (λ p. map markByte (printedMarks 1024 (p .tested))) (λ s es. refl)
+      bytes : markBytes (readJournal journal) ≡ map markByte (printedMarks judged 1024 (tested (scanned .progress .engines)))
+      bytes = told-is scanned (readJournal journal) t held markBytes (λ p. map markByte (printedMarks judged 1024 (p .tested))) (λ s es. refl)
 
       engines : statusOf (readJournal journal) .n ≡ scanned .progress .engines .count
       engines =
@@ -112,7 +113,7 @@ module _ (journal : List ℕ) (scanned : Scanned) (t : Tells scanned (readJourna
       unfolding outAfter
       all = accepted-gives (WriteMarks (length out)) journal (put out 0 (markBytes (readJournal journal))) out h
 
-      pub marks-done : (left : List ℕ) → left ≡ put out 0 (map markByte (printedMarks 1024 (tested (scanned .progress .engines))))
+      pub marks-done : (left : List ℕ) → left ≡ put out 0 (map markByte (printedMarks judged 1024 (tested (scanned .progress .engines))))
           → (record { refusal = 0; length = 2 * scanned .progress .engines .count } ≡ marksAnswer journal out) × (left ≡ outAfter journal out)
       marks-done left e = (
         rw (h, part, mark-bytes (readJournal journal), engines),

@@ -8,13 +8,18 @@ use native.Mathlib.Omega.{arith}
 use Rattle.statistics.specs.declared.SampleSize.{SampleSize}
 use Rattle.statistics.specs.Spread.{Test}
 use Rattle.statistics.proofs.Deviations.{deviation-early}
-use Rattle.statistics.specs.SampleSize.{sampleSize, sizeReached, sizeReachedOf}
+use Rattle.statistics.specs.SampleSize.{sampleSize, sampleSizeOf, sizeReached, sizeReachedOf}
 use Rattle.year.specs.Status.{figures}
 use Rattle.figures.specs.declared.Running.{Running}
 use Rattle.figures.specs.Running.{running}
 
 module _ (k : ℕ) (f : Running) where
-  pub shown : (h : List Test) (size : SampleSize) → f ≡ running k h → size ≡ sampleSize (f .sums .n) (f .sums .total) (f .standard) (f .sums .variation)
+  pub size-shown : (h : List Test) → f ≡ running k h → sampleSize (f .sums .n) (f .sums .total) (f .standard) (f .sums .variation) ≡ sampleSizeOf h
+  unfolding running sampleSize
+  size-shown [] e = rw e
+  size-shown (x ∷ h) e = rw e
+
+  pub shown : (h : List Test) (size : SampleSize) → f ≡ running k h
       → record {
         sum = f .sums .total;
         deviation = f .deviation;
@@ -22,11 +27,11 @@ module _ (k : ℕ) (f : Running) where
         limit = f .limit;
         size = size;
         mark = f .mark;
-      } ≡ figures k h
-  unfolding running sampleSize
-  shown [] size e s = rw (s, e, deviation-early k [] (omega arith))
-  shown (x ∷ []) size e s = rw (s, e, deviation-early k (x ∷ []) (omega arith), add-zero)
-  shown (x ∷ y ∷ h) size e s = rw (s, e)
+      } ≡ figures k size h
+  unfolding running
+  shown [] size e = rw (e, deviation-early k [] (omega arith))
+  shown (x ∷ []) size e = rw (e, deviation-early k (x ∷ []) (omega arith), add-zero)
+  shown (x ∷ y ∷ h) size e = rw e
 
   pub size-reached : (h : List Test) → f ≡ running k h → sizeReached (f .sums .n) (f .sums .total) (f .standard) (f .sums .variation) ≡ sizeReachedOf h
   unfolding running sizeReached

@@ -3,18 +3,27 @@ ghost use mathlib.Core.Path.{_≡_};
 ghost use mathlib.Core.List.{List};
 ghost use Prim.Native.Nat.{ℕ};
 ghost use Rattle.statistics.specs.Spread.{Test};
-ghost use Rattle.statistics.specs.SampleSize.{sizeReachedOf};
+ghost use Rattle.statistics.specs.SampleSize.{sampleSizeOf, sizeReachedOf};
 ghost use Rattle.year.specs.Status.{figures};
 ghost use Rattle.figures.specs.Running.{running, Worked};
 use estimates::size::sample_size_of;
 use estimates::size::size_reached;
 use figures::Running;
+use statistics::SampleSize;
 use year::Figures;
 
-// Before engine 2 the figures are 0 and there is no N, so nothing is asked here.
-pub fn figures_of(f: Running) -> Figures
+// N of one pollutant; before engine 2 there is none, so nothing is asked here.
+pub fn size_of(f: Running) -> SampleSize
     requires { ⌜ Worked f ⌝ }
-    ensures { λ r. ⌜ ((k : ℕ) (h : List Test) → f ≡ running k h → r ≡ figures k h) ⌝ }
+    ensures { λ r. ⌜ ((k : ℕ) (h : List Test) → f ≡ running k h → r ≡ sampleSizeOf h) ⌝ }
+{
+    let s = f.sums;
+    sample_size_of(s.n, s.total, f.standard, s.variation)
+}
+
+// The figures with an N; before engine 2 they are 0.
+pub fn with_size(f: Running, size: SampleSize) -> Figures
+    ensures { λ r. ⌜ ((k : ℕ) (h : List Test) → f ≡ running k h → r ≡ figures k size h) ⌝ }
 {
     let s = f.sums;
     let deviation = f.deviation;
@@ -26,9 +35,18 @@ pub fn figures_of(f: Running) -> Figures
         deviation,
         cumsum,
         limit,
-        size: sample_size_of(s.n, s.total, f.standard, s.variation),
+        size,
         mark,
     }
+}
+
+// The figures with the N that is worked from them.
+pub fn figures_of(f: Running) -> Figures
+    requires { ⌜ Worked f ⌝ }
+    ensures { λ r. ⌜ ((k : ℕ) (h : List Test) → f ≡ running k h → r ≡ figures k (sampleSizeOf h) h) ⌝ }
+{
+    let size = size_of(f);
+    with_size(f, size)
 }
 
 // The stop test of one pollutant.

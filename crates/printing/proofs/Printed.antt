@@ -9,7 +9,7 @@ use lib.ListN.{length, getD, length-map}
 use Rattle.buffers.specs.Bytes.{put}
 use Rattle.buffers.proofs.Lists.{put-put, length-put}
 use Rattle.cumsum.specs.Marks.{mark, markByte}
-use Rattle.year.specs.Setup.{Pollutant, Hcnox, Co}
+use Rattle.year.specs.Setup.{Pollutant, Hcnox, Co, judged}
 use Rattle.year.specs.Replay.{history}
 use Rattle.year.specs.Status.{printedMarks}
 use Rattle.year.proofs.Kept.{printed-length}
@@ -22,7 +22,7 @@ use Rattle.printing.specs.Ranges.{MarksInRange}
 module _ (k : ℕ) (e : Engines) where
   -- the bytes of the marks of the engines before a place
   abbrev pub bytesTo : ℕ → List ℕ
-  bytesTo i = map markByte (printedMarks k (testedTo e i))
+  bytesTo i = map markByte (printedMarks judged k (testedTo e i))
 
   -- the ranges, and how many engines there are
   pub fits : MarksInRange e k → (q : Pollutant) → ReworkInRange (resultsOf q e) (standardsOf q e) (e .count) k
@@ -43,10 +43,10 @@ module _ (k : ℕ) (e : Engines) where
   pair i = markByte (mark k (history Hcnox (testedTo e i))) ∷ markByte (mark k (history Co (testedTo e i))) ∷ []
 
   bytes-next : (i : ℕ) → bytesTo (suc i) ≡ bytesTo i ++ pair (suc i)
-  bytes-next i = map-append markByte (printedMarks k (testedTo e i)) _
+  bytes-next i = map-append markByte (printedMarks judged k (testedTo e i)) _
 
   length-bytes : (i : ℕ) → length (bytesTo i) ≡ 2 * i
-  length-bytes i = length-map (printedMarks k (testedTo e i)) markByte ∙ printed-length k (testedTo e i) ∙ ap (λ (n : ℕ). 2 * n) (tested-length e i)
+  length-bytes i = length-map (printedMarks judged k (testedTo e i)) markByte ∙ printed-length judged k (testedTo e i) ∙ ap (λ (n : ℕ). 2 * n) (tested-length e i)
 
   -- a buffer in which these bytes stand at the front: its length, and the marks of one engine more
   module _ (out : List ℕ) (i : ℕ) (printed : List ℕ) (p : printed ≡ put out 0 (bytesTo i)) where

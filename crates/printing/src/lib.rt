@@ -5,6 +5,7 @@ ghost use Prim.Native.Nat.{_+_, _*_, _≤_};
 ghost use lib.ListN.{length};
 ghost use Rattle.buffers.specs.Bytes.{put};
 ghost use Rattle.cumsum.specs.Marks.{markByte};
+ghost use Rattle.year.specs.Setup.{judged};
 ghost use Rattle.year.specs.Status.{printedMarks};
 ghost use Rattle.engines.specs.Engines.{tested, ReworkInRange};
 ghost use Rattle.printing.specs.Columns.{MarkedTo};
@@ -67,7 +68,7 @@ fn print_pair(out: &mut [u8], place: usize, hcnox: u8, co: u8)
 // Writes the marks of all engines at the front of a lent buffer, in the order of entry. The rest of the buffer stays.
 pub fn print_marks(engines: Engines, resolution: u64, out: &mut [u8])
     requires { ⌜ MarksInRange engines resolution × (2 * engines .count ≤ length (now out)) ⌝ }
-    ensures { λ _. ⌜ now (out .exit) ≡ put (now (out .entry)) 0 (map markByte (printedMarks resolution (tested engines))) ⌝ }
+    ensures { λ _. ⌜ now (out .exit) ≡ put (now (out .entry)) 0 (map markByte (printedMarks judged resolution (tested engines))) ⌝ }
 {
     let hcnox_results = engines.hcnox_results;
     let hcnox_standards = engines.hcnox_standards;

@@ -3,7 +3,7 @@
 use mathlib.Core.Path.{refl}
 use Rattle.rounding.specs.Result.{nearestEven}
 use Rattle.statistics.specs.Spread.{variation}
-use Rattle.statistics.specs.SampleSize.{t95, sizeReached}
+use Rattle.statistics.specs.SampleSize.{t95, sampleSize, sizeReached}
 use Rattle.statistics.proofs.Deviations.{deviation-none}
 use Rattle.cumsum.specs.Marks.{compared, failed, undecided}
 use Rattle.buffers.specs.Bytes.{put}
@@ -17,7 +17,7 @@ use Rattle.reference.specs.Model.{stepModel}
 use Rattle.reference.specs.Cases.{Cases}
 
 pub cases : Cases
-unfolding nearestEven variation t95 sizeReached compared failed undecided put periods needs verdict closed admissible readAs refusals refusal journalAfter answer outAfter marksPart stepModel
+unfolding nearestEven variation t95 sampleSize sizeReached compared failed undecided put periods needs verdict closed admissible readAs refusals refusal journalAfter answer outAfter marksPart stepModel
 cases =
     record {
       journalSize = refl;

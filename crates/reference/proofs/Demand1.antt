@@ -20,7 +20,8 @@ use Rattle.cumsum.specs.Marks.{markByte}
 use Rattle.year.specs.declared.Setup.{Setup}
 use Rattle.year.specs.declared.Event.{Event}
 use Rattle.year.specs.Replay.{replay}
-use Rattle.year.specs.Status.{printedMarks}
+use Rattle.year.specs.Setup.{judged}
+use Rattle.year.specs.Status.{printed}
 use Rattle.year.specs.Model.{Model, NoSetup, Year}
 use Rattle.year.proofs.Kept.{printed-length}
 use Rattle.journal.specs.Encode.{slotPlace, slotOf, append}
@@ -112,7 +113,7 @@ out-fits journal size h = by (readJournal journal) (not-refused (length journal)
 
 pub mark-bytes : (model : Model) → length (markBytes model) ≡ 2 * statusOf model .n
 mark-bytes NoSetup = refl
-mark-bytes (Year s es) = length-map (printedMarks 1024 (replay s es .tested)) markByte ∙ printed-length 1024 (replay s es .tested)
+mark-bytes (Year s es) = length-map (printed 1024 (replay s es)) markByte ∙ printed-length judged 1024 (replay s es .tested)
 
 -- to prove a fact of the output after the marks call, prove it of the same output, and of the marks put at its front where they fit
 by-marks : (P : List ℕ → Type 0) (journal out : List ℕ) → P out

@@ -11,13 +11,15 @@ use lib.ListN.{length, take, drop}
 use lib.Seq.{take-append-seam}
 use Rattle.buffers.specs.Bytes.{put}
 use Rattle.statistics.specs.Spread.{Test, total, deviationOf}
-use Rattle.statistics.specs.SampleSize.{sampleSizeOf}
+use Rattle.statistics.specs.declared.SampleSize.{SampleSize}
+use Rattle.statistics.specs.declared.SampleSize.the-variants.{Absent}
+use Rattle.statistics.specs.SampleSize.{sampleSize, sampleSizeOf}
 use Rattle.cumsum.specs.Intervals.{cumsum, actionLimit}
 use Rattle.cumsum.specs.Marks.{mark}
 use Rattle.year.specs.declared.Figures.{Figures}
 use Rattle.year.specs.Setup.{Pollutant, Hcnox, Co}
 use Rattle.year.specs.Replay.{Progress, replay, history}
-use Rattle.year.specs.Status.{blank, figures, status}
+use Rattle.year.specs.Status.{early, sizeOf, figures, status}
 use Rattle.year.specs.Model.{noSetup}
 use Rattle.year.proofs.Replayed.{history-length}
 use Rattle.journal.specs.Read.{readJournal}
@@ -35,33 +37,41 @@ use Rattle.reference.proofs.Demand1.{demand-1}
 
 -- ---- the figures of one pollutant
 
-sum-is : (h : List Test) → figures 1024 h .sum ≡ total h
-sum-is [] = refl
-sum-is (x ∷ []) = sym (add-zero (x .result))
-sum-is (x ∷ y ∷ h) = refl
+module _ (size : SampleSize) where
+  sum-is : (h : List Test) → figures 1024 size h .sum ≡ total h
+  sum-is [] = refl
+  sum-is (x ∷ []) = sym (add-zero (x .result))
+  sum-is (x ∷ y ∷ h) = refl
 
-from-two : (h : List Test) → 2 ≤ length h
-    → figures 1024 h ≡ record {
-      sum = total h;
-      deviation = deviationOf 1024 h;
-      cumsum = cumsum 1024 h;
-      limit = actionLimit 1024 h;
-      size = sampleSizeOf h;
-      mark = mark 1024 h;
-    }
-from-two [] l = absurd (omega arith)
-from-two (x ∷ []) l = absurd (omega arith)
-from-two (x ∷ y ∷ h) l = refl
+  from-two : (h : List Test) → 2 ≤ length h
+      → figures 1024 size h ≡ record {
+        sum = total h;
+        deviation = deviationOf 1024 h;
+        cumsum = cumsum 1024 h;
+        limit = actionLimit 1024 h;
+        size = size;
+        mark = mark 1024 h;
+      }
+  from-two [] l = absurd (omega arith)
+  from-two (x ∷ []) l = absurd (omega arith)
+  from-two (x ∷ y ∷ h) l = refl
 
-before-two : (h : List Test) → length h < 2 → figures 1024 h ≡ blank (total h)
-before-two [] l = refl
-before-two (x ∷ []) l = ap blank (sym (add-zero (x .result)))
-before-two (x ∷ y ∷ h) l = absurd (omega arith)
+  before-two : (h : List Test) → length h < 2 → figures 1024 size h ≡ early (total h) size
+  before-two [] l = refl
+  before-two (x ∷ []) l = ap (λ n. early n size) (sym (add-zero (x .result)))
+  before-two (x ∷ y ∷ h) l = absurd (omega arith)
+
+-- there is no N before engine 2
+no-size : (h : List Test) → length h < 2 → sampleSizeOf h ≡ Absent
+unfolding sampleSize
+no-size [] l = refl
+no-size (x ∷ []) l = refl
+no-size (x ∷ y ∷ h) l = absurd (omega arith)
 
 -- ---- the figures of a year
 
 module _ (p : Progress) where
-  figures-of : (q : Pollutant) → figuresOf q (status 1024 p) ≡ figures 1024 (history q (p .tested))
+  figures-of : (q : Pollutant) → figuresOf q (status 1024 p) ≡ figures 1024 (sizeOf q p) (history q (p .tested))
   figures-of Hcnox = refl
   figures-of Co = refl
 
@@ -77,20 +87,21 @@ module _ (p : Progress) where
         mark = mark 1024 (history q (p .tested));
       })
   later figure q l =
-      ap figure (figures-of q) ∙ ap figure (from-two (history q (p .tested)) (omega (arith, history-length q (p .tested))))
+      ap figure (figures-of q) ∙ ap figure (from-two (sizeOf q p) (history q (p .tested)) (omega (arith, history-length q (p .tested))))
 
   pub shows : Shows (status 1024 p) p
   shows =
       record {
         n = refl;
         verdict = refl;
-        sum = λ q. ap (λ (f : Figures). f .sum) (figures-of q) ∙ sum-is (history q (p .tested));
+        sum = λ q. ap (λ (f : Figures). f .sum) (figures-of q) ∙ sum-is (sizeOf q p) (history q (p .tested));
         deviation = later (λ f. f .deviation);
         cumsum = later (λ f. f .cumsum);
         limit = later (λ f. f .limit);
         size = later (λ f. f .size);
         mark = later (λ f. f .mark);
-        early = λ q l. figures-of q ∙ before-two (history q (p .tested)) (omega (arith, history-length q (p .tested)));
+        early = λ q l. let few : length (history q (p .tested)) < 2 = omega (arith, history-length q (p .tested)) in
+            figures-of q ∙ before-two (sizeOf q p) (history q (p .tested)) few ∙ ap (early (total (history q (p .tested)))) (no-size (history q (p .tested)) few);
       }
 
 -- ---- what is answered

@@ -10,7 +10,7 @@ use Rattle.buffers.specs.Rows.{Row}
 use Rattle.cumsum.specs.Marks.{markByte}
 use Rattle.year.specs.declared.Status.{Status}
 use Rattle.year.specs.Replay.{replay}
-use Rattle.year.specs.Status.{blank, status, printedMarks}
+use Rattle.year.specs.Status.{blank, status, printed}
 use Rattle.year.specs.Model.{Model, NoSetup, Year}
 use Rattle.journal.specs.Encode.{encode, append}
 use Rattle.journal.specs.Read.{readJournal}
@@ -79,7 +79,7 @@ told call journal =
 -- the bytes of the marks, "two marks per engine, HC+NOx then CO"
 abbrev pub markBytes : Model → List ℕ
 markBytes NoSetup = []
-markBytes (Year s es) = map markByte (printedMarks 1024 (replay s es .tested))
+markBytes (Year s es) = map markByte (printed 1024 (replay s es))
 
 -- "The strip call writes [them] at the front of a lent buffer": the whole buffer after the call
 unfoldable pub outAfter : List ℕ → List ℕ → List ℕ

@@ -18,7 +18,7 @@ use Rattle.year.specs.declared.Status.{Status}
 use Rattle.year.specs.Setup.{Pollutant, Hcnox, Co}
 use Rattle.year.specs.Replay.{Progress, replay, history}
 use Rattle.year.specs.Verdict.{verdict}
-use Rattle.year.specs.Status.{blank, printedMarks}
+use Rattle.year.specs.Status.{blank, printed}
 use Rattle.year.specs.Admissible.{admissible}
 use Rattle.year.specs.Model.{Year, noSetup}
 use Rattle.journal.specs.Read.{readJournal}
@@ -65,7 +65,7 @@ pub record Demand2 : Type 0 where
   pub answered : (call : Call) (journal : List ℕ) → refusalOn call journal ≡ 0 → answer call journal ≡ answer ReadStatus (journalAfter call journal)
   -- what is written: the marks, at the front of the output
   pub marks : (journal out : List ℕ) (s : Setup) (es : List Event) → readJournal journal ≡ Year s es → refusalOn (WriteMarks (length out)) journal ≡ 0
-      → outAfter journal out ≡ put out 0 (map markByte (printedMarks 1024 (replay s es .tested)))
+      → outAfter journal out ≡ put out 0 (map markByte (printed 1024 (replay s es)))
   -- "and hands back just that written part": the front of the output
   pub handedBack : (journal out : List ℕ) → take (length (marksPart journal out)) (outAfter journal out) ≡ marksPart journal out
   -- "For one setup, every list of accepted events .. has one book, and every accepted book reads back as its setup and list."

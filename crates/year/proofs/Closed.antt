@@ -6,7 +6,7 @@ use Prim.Native.Nat.{ℕ}
 use lib.Dec.{eqb}
 use Rattle.buffers.specs.Rows.{first, applies}
 use Rattle.cumsum.specs.Marks.{marks, failed}
-use Rattle.year.specs.Setup.{either}
+use Rattle.year.specs.Setup.{some, judged}
 use Rattle.year.specs.Replay.{Progress, history}
 use Rattle.year.specs.Verdict.{verdictTable, verdictRows, verdict}
 use Rattle.year.specs.Admissible.{closed}
@@ -21,7 +21,7 @@ is-closed false false false false false true p = refl
 is-closed false false false false false false true = refl
 is-closed false false false false false false false = refl
 
-pub closed-is : (p : Progress) → closed p ≡ (p .declared || either (λ q. failed (marks 1024 (history q (p .tested)))))
+pub closed-is : (p : Progress) → closed p ≡ (p .declared || some (λ q. failed (marks 1024 (history q (p .tested)))) judged)
 unfolding closed verdict
 closed-is p = is-closed (at 7) (at 6) (at 5) (at 0) (at 2) (at 3) (at 4)
   where

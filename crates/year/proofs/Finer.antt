@@ -1,6 +1,6 @@
 -- Work at m beside the calculator's work, for a year: the marks in printed order, the verdict, the intervals.
 -- Assumes nothing.
-use mathlib.Core.Path.{_≡_, refl, _∙_}
+use mathlib.Core.Path.{_≡_, refl, sym, ap, _∙_}
 use mathlib.Core.Logic.{_≢_}
 use mathlib.Core.Bool.{Bool, true, false, cond, _||_, So, false≢true}
 use mathlib.Core.List.{List, [], _∷_, _++_, Forall₂, Forall₂·nil, Forall₂·cons}
@@ -14,10 +14,10 @@ use Rattle.cumsum.proofs.MarksFiner.{Refined, mark-refined, marks-refined, refi
 use Rattle.cumsum.proofs.Patterns.{or-map, or-exchange, failed-stays, open-was}
 use Rattle.year.specs.declared.Setup.{Setup}
 use Rattle.year.specs.declared.Event.{Event}
-use Rattle.year.specs.Setup.{Pollutant, Hcnox, Co}
+use Rattle.year.specs.Setup.{Pollutant, some, judged}
 use Rattle.year.specs.Replay.{Tested, Progress, replay, history}
 use Rattle.year.specs.Verdict.{verdict}
-use Rattle.year.specs.Status.{printedMarks}
+use Rattle.year.specs.Status.{newestMarks, printedMarks}
 use Rattle.year.proofs.Replayed.{history-length}
 use Rattle.year.specs.Work.{atEngine}
 use Rattle.year.specs.FinerWork.{FinerWork}
@@ -38,26 +38,42 @@ rows-finer false false false true u′ rest a b n = absurd (false≢true (b refl
 rows-finer false false false false true rest a b n = absurd (false≢true (b refl))
 rows-finer false false false false false rest a b n = refl
 
+-- a test of some of the pollutants
+some-map : {f g : Pollutant → Bool} (qs : List Pollutant) → ((q : Pollutant) → So (f q) → So (g q)) → So (some f qs) → So (some g qs)
+some-map [] h t = t
+some-map (q ∷ []) h t = h q t
+some-map (q ∷ r ∷ qs) h t = or-map (h q) (some-map (r ∷ qs) h) t
+
+some-or : (f g : Pollutant → Bool) (qs : List Pollutant) → (some f qs || some g qs) ≡ some (λ q. f q || g q) qs
+some-or f g [] = refl
+some-or f g (q ∷ []) = refl
+some-or f g (q ∷ r ∷ qs) =
+    or-exchange (f q) (some f (r ∷ qs)) (g q) (some g (r ∷ qs)) ∙ ap (λ (t : Bool). f q || g q || t) (some-or f g (r ∷ qs))
+
 module _ (m : ℕ) (pos : 1 ≤ m) where
-  printed-refined : (xs : List Tested) → Forall₂ Refined (printedMarks 1024 xs) (printedMarks (1024 * m) xs)
-  printed-refined [] = Forall₂·nil
-  printed-refined (x ∷ xs) =
-      related-append (printed-refined xs)
-      (Forall₂·cons (mark-refined 1024 m pos (history Hcnox (x ∷ xs)))
-      (Forall₂·cons (mark-refined 1024 m pos (history Co (x ∷ xs))) Forall₂·nil))
+  newest-refined : (qs : List Pollutant) (xs : List Tested) → Forall₂ Refined (newestMarks qs 1024 xs) (newestMarks qs (1024 * m) xs)
+  newest-refined [] xs = Forall₂·nil
+  newest-refined (q ∷ qs) xs = Forall₂·cons (mark-refined 1024 m pos (history q xs)) (newest-refined qs xs)
+
+  printed-refined : (qs : List Pollutant) (xs : List Tested) → Forall₂ Refined (printedMarks qs 1024 xs) (printedMarks qs (1024 * m) xs)
+  printed-refined qs [] = Forall₂·nil
+  printed-refined qs (x ∷ xs) = related-append (printed-refined qs xs) (newest-refined qs (x ∷ xs))
 
   -- only the rows 6 and 5 depend on the resolution; the rest is the same at any
   verdict-kept : (p : Progress) → verdict 1024 p ≢ 5 → verdict (1024 * m) p ≡ verdict 1024 p
   unfolding verdict
   verdict-kept p =
       rows-finer (p .declared)
-      (failed (at 1024 Hcnox) || failed (at 1024 Co)) (undecided (at 1024 Hcnox) || undecided (at 1024 Co))
-      (failed (at (1024 * m) Hcnox) || failed (at (1024 * m) Co)) (undecided (at (1024 * m) Hcnox) || undecided (at (1024 * m) Co))
+      (some (λ q. failed (at 1024 q)) qs) (some (λ q. undecided (at 1024 q)) qs)
+      (some (λ q. failed (at (1024 * m) q)) qs) (some (λ q. undecided (at (1024 * m) q)) qs)
       _
-      (or-map (failed-stays (refined Hcnox)) (failed-stays (refined Co)))
-      (λ t. rw (or-exchange (failed (at 1024 Hcnox)) (failed (at 1024 Co)))
-      (or-map (open-was (refined Hcnox)) (open-was (refined Co)) (rw (or-exchange (failed (at (1024 * m) Hcnox)) (failed (at (1024 * m) Co))) at t)))
+      (some-map qs (λ q. failed-stays (refined q)))
+      (λ t. some-or (λ q. failed (at 1024 q)) (λ q. undecided (at 1024 q)) qs
+      ∙ some-map qs (λ q. open-was (refined q)) (sym (some-or (λ q. failed (at (1024 * m) q)) (λ q. undecided (at (1024 * m) q)) qs) ∙ t))
     where
+      qs : List Pollutant
+      qs = judged
+
       at : ℕ → Pollutant → List Mark
       at k q = marks k (history q (p .tested))
 
@@ -71,7 +87,7 @@ at-length n q p few = history-length q (drop (length (p .tested) - n) (p .tested
 pub finer-progress : (m : ℕ) → 1 ≤ m → (p : Progress) → FinerWork m p
 finer-progress m pos p =
     record {
-      marks = refined-lists (printed-refined m pos (p .tested));
+      marks = refined-lists (printed-refined m pos judged (p .tested));
       verdictKept = verdict-kept m pos p;
       cumsumWithin = λ q n _ _. inside-within 1024 m _ _ (cumsum-inside 1024 m (atEngine n q p));
       limitWithin = λ q n _ _. inside-within 1024 m _ _ (limit-inside 1024 m (atEngine n q p));

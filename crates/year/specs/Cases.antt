@@ -17,7 +17,7 @@ use Rattle.year.specs.Setup.{Hcnox, Co}
 use Rattle.year.specs.Replay.{Progress, replay, history}
 use Rattle.year.specs.Verdict.{verdict, onePercent}
 use Rattle.year.specs.Admissible.{enginesFull, valid}
-use Rattle.year.specs.Status.{blank, status, printedMarks}
+use Rattle.year.specs.Status.{blank, status, printed}
 use Rattle.year.specs.Work.{atEngine, marksAt, verdictAt, cumsumAt, limitAt}
 
 abbrev pub pair : ℕ → ℕ → Pair
@@ -54,7 +54,7 @@ pub record Cases : Type 0 where
   pub onePercentOf250 : onePercent 250 ≡ 2
   pub onePercentOf350 : onePercent 350 ≡ 4
   -- T 100, X 500 three times: two marks per engine, HC+NOx then CO
-  pub printedOfThree : printedMarks 1024 (replay (setupOf 5000 100) three .tested) ≡ Unmarked ∷ Unmarked ∷ Over ∷ Under ∷ Over ∷ Under ∷ []
+  pub printedOfThree : printed 1024 (replay (setupOf 5000 100) three) ≡ Unmarked ∷ Unmarked ∷ Over ∷ Under ∷ Over ∷ Under ∷ []
   -- the printed run: short with no engine and with one, continue with two, declared
   pub verdictOfNone : verdict 1024 (replay (setupOf 5000 800) []) ≡ 0
   pub verdictOfOne : verdict 1024 (replay (setupOf 5000 800) (engine 1 998 ∷ [])) ≡ 0

@@ -1,6 +1,7 @@
 -- Document 01, "The year that a book holds": one family, one model year, two pollutants; and the ranges of a setup.
 -- Assumes nothing.
-use mathlib.Core.Bool.{Bool, _&&_, _||_}
+use mathlib.Core.Bool.{Bool, true, false, _&&_, _||_}
+use mathlib.Core.List.{List, [], _∷_}
 use Prim.Native.Nat.{ℕ, _%_}
 use lib.Dec.{eqb}
 use Rattle.buffers.specs.Numbers.{within}
@@ -23,12 +24,24 @@ abbrev pub factorOf : Pollutant → Setup → Factor
 factorOf Hcnox setup = setup .factors .hcnox
 factorOf Co setup = setup .factors .co
 
--- a test of both pollutants, and of at least one of them
+-- a test of both pollutants
 abbrev pub both : (Pollutant → Bool) → Bool
 both test = test Hcnox && test Co
 
-abbrev pub either : (Pollutant → Bool) → Bool
-either test = test Hcnox || test Co
+-- a test of each of some pollutants, and of at least one of them
+abbrev pub every : (Pollutant → Bool) → List Pollutant → Bool
+every test [] = true
+every test (q ∷ []) = test q
+every test (q ∷ r ∷ qs) = test q && every test (r ∷ qs)
+
+abbrev pub some : (Pollutant → Bool) → List Pollutant → Bool
+some test [] = false
+some test (q ∷ []) = test q
+some test (q ∷ r ∷ qs) = test q || some test (r ∷ qs)
+
+-- the judged pollutants, in the order in which their marks are listed
+abbrev pub judged : List Pollutant
+judged = Hcnox ∷ Co ∷ []
 
 -- "Standards are whole result units, multiples of ten, 10 to 20,000."
 abbrev pub standardInRange : ℕ → Bool

@@ -9,7 +9,7 @@ use Rattle.buffers.specs.Rows.{Row, first}
 use Rattle.rounding.specs.Result.{nearestEven}
 use Rattle.statistics.specs.SampleSize.{sizeReachedOf}
 use Rattle.cumsum.specs.Marks.{marks, failed, undecided}
-use Rattle.year.specs.Setup.{both, either}
+use Rattle.year.specs.Setup.{every, some, judged}
 use Rattle.year.specs.Replay.{Progress, history, short}
 
 -- "one percent of P, rounded, halves to even"
@@ -26,10 +26,10 @@ abbrev pub verdictRows : ℕ → Progress → List Row
 verdictRows k p =
     verdictTable
     (p .declared)
-    (either (λ q. failed (marks k (history q (p .tested)))))
-    (either (λ q. undecided (marks k (history q (p .tested)))))
+    (some (λ q. failed (marks k (history q (p .tested)))) judged)
+    (some (λ q. undecided (marks k (history q (p .tested)))) judged)
     (short p)
-    (both (λ q. sizeReachedOf (history q (p .tested))))
+    (every (λ q. sizeReachedOf (history q (p .tested))) judged)
     (leb 30 (length (p .tested)))
     (leb (onePercent (p .setup .volume)) (length (p .tested)))
 
