@@ -5,14 +5,13 @@ ghost use mathlib.Core.Path.{_≡_};
 ghost use lib.ListN.{length};
 ghost use denote.Ref.{ptr};
 ghost use Rattle.progress.specs.State.{shown};
-ghost use Rattle.reference.specs.Call.{engineEntry, Amend, BeginPeriod, Declare, SetUp, Enter, ReadStatus, WriteMarks};
+ghost use Rattle.reference.specs.Call.{engineEntry, SetUp, Enter, ReadStatus, WriteMarks};
+ghost use Rattle.reference.specs.Change.{entryOf};
 ghost use Rattle.reference.specs.Answers.{refusalOn, journalAfter, answer, answerOf, told, outAfter, marksPart, marksAnswer};
 ghost use Rattle.calls.specs.Entering.{Enterable, answerTo, journalWith};
 use decisions::Decision;
 use decisions::engine::engine;
-use decisions::entries::amendment;
-use decisions::entries::declaration;
-use decisions::entries::next_period;
+use decisions::entries::change;
 use decisions::refusals::marks_refusal;
 use decisions::refusals::setup_refusal;
 use decisions::refusals::status_refusal;
@@ -23,10 +22,10 @@ use progress::Progress;
 use progress::events::after;
 use progress::events::start;
 use reference::Answer;
+use reference::Change;
 use reference::MarksAnswer;
 use scan::scan_journal;
 use verdicts::status::status_of;
-use year::Pair;
 use year::Setup;
 
 // Setup: all of the buffer is written, whatever it held.
@@ -69,36 +68,14 @@ pub fn enter_engine(journal: &mut [u8], number: u32, hcnox: &[u32], co: &[u32]) 
     enter(journal, scanned.progress, decision)
 }
 
-// An amendment: the standards for later engines.
-pub fn amend(journal: &mut [u8], standards: Pair) -> Answer
-    ensures { λ r. ⌜ r ≡ answer (Enter (Amend standards)) (now (journal .entry)) ⌝ }
-    ensures { λ r. ⌜ answerOf r ≡ told (Enter (Amend standards)) (now (journal .entry)) ⌝ }
-    ensures { λ _. ⌜ now (journal .exit) ≡ journalAfter (Enter (Amend standards)) (now (journal .entry)) ⌝ }
+// An entry that comes without readings: an amendment, the next period, a declaration.
+pub fn enter_change(journal: &mut [u8], c: Change) -> Answer
+    ensures { λ r. ⌜ r ≡ answer (Enter (entryOf c)) (now (journal .entry)) ⌝ }
+    ensures { λ r. ⌜ answerOf r ≡ told (Enter (entryOf c)) (now (journal .entry)) ⌝ }
+    ensures { λ _. ⌜ now (journal .exit) ≡ journalAfter (Enter (entryOf c)) (now (journal .entry)) ⌝ }
 {
     let scanned = scan_journal(journal);
-    let decision = amendment(journal, scanned, standards);
-    enter(journal, scanned.progress, decision)
-}
-
-// The next period.
-pub fn begin_period(journal: &mut [u8]) -> Answer
-    ensures { λ r. ⌜ r ≡ answer (Enter BeginPeriod) (now (journal .entry)) ⌝ }
-    ensures { λ r. ⌜ answerOf r ≡ told (Enter BeginPeriod) (now (journal .entry)) ⌝ }
-    ensures { λ _. ⌜ now (journal .exit) ≡ journalAfter (Enter BeginPeriod) (now (journal .entry)) ⌝ }
-{
-    let scanned = scan_journal(journal);
-    let decision = next_period(journal, scanned);
-    enter(journal, scanned.progress, decision)
-}
-
-// A declaration.
-pub fn declare(journal: &mut [u8]) -> Answer
-    ensures { λ r. ⌜ r ≡ answer (Enter Declare) (now (journal .entry)) ⌝ }
-    ensures { λ r. ⌜ answerOf r ≡ told (Enter Declare) (now (journal .entry)) ⌝ }
-    ensures { λ _. ⌜ now (journal .exit) ≡ journalAfter (Enter Declare) (now (journal .entry)) ⌝ }
-{
-    let scanned = scan_journal(journal);
-    let decision = declaration(journal, scanned);
+    let decision = change(journal, scanned, c);
     enter(journal, scanned.progress, decision)
 }
 

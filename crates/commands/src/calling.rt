@@ -8,9 +8,7 @@ ghost use Rattle.reference.specs.Call.{WriteMarks};
 ghost use Rattle.replies.specs.Replied.{Replied};
 ghost use Rattle.protocol.specs.KeyLine.{engineFrom};
 ghost use Rattle.protocol.specs.Reply.{callReply, commandReply, commandAfter};
-use calls::amend;
-use calls::begin_period;
-use calls::declare;
+use calls::enter_change;
 use calls::enter_engine;
 use calls::set_up;
 use calls::write_marks;
@@ -51,9 +49,7 @@ pub fn make(journal: &mut [u8], request: Request, values: &[u32], out: &mut [u8]
     match request {
         Request::SetUp(s) => write_answer(set_up(journal, s), out),
         Request::EnterEngine => write_answer(enter(journal, values), out),
-        Request::Amend(standards) => write_answer(amend(journal, standards), out),
-        Request::BeginPeriod => write_answer(begin_period(journal), out),
-        Request::Declare => write_answer(declare(journal), out),
+        Request::Enter(change) => write_answer(enter_change(journal, change), out),
         Request::WriteMarks => list_marks(journal, out),
         Request::Refuse(number) => write_refusal(number, out),
     }

@@ -3,12 +3,14 @@ ghost use mathlib.Core.Path.{_≡_};
 ghost use Rattle.buffers.specs.Rows.{first};
 ghost use Rattle.journal.specs.Read.{readJournal};
 ghost use Rattle.reference.specs.Call.{Amend, BeginPeriod, Declare};
+ghost use Rattle.reference.specs.Change.{entryOf};
 ghost use Rattle.scan.specs.Scan.{Tells};
 ghost use Rattle.decisions.specs.Decisions.{commonRows, decisionOn};
 use crate::Decision;
 use crate::rows::decide;
 use crate::rows::row;
 use admission::period_fits;
+use reference::Change;
 use scan::Scanned;
 use schedule::standards_in_range;
 use verdicts::verdict::closed;
@@ -33,7 +35,7 @@ pub fn common_refusal(journal: &[u8], unfit: bool, scanned: Scanned) -> u8
     row(closed(p), 8, row(64 <= p.stored, 9, 0))
 }
 
-pub fn amendment(journal: &[u8], scanned: Scanned, standards: Pair) -> Decision
+fn amendment(journal: &[u8], scanned: Scanned, standards: Pair) -> Decision
     requires { ⌜ Tells scanned (readJournal (now journal)) ⌝ }
     ensures { λ r. ⌜ r ≡ decisionOn (Amend standards) (now (journal .entry)) ⌝ }
 {
@@ -41,7 +43,7 @@ pub fn amendment(journal: &[u8], scanned: Scanned, standards: Pair) -> Decision
     decide(refusal, Event::Amendment(standards))
 }
 
-pub fn declaration(journal: &[u8], scanned: Scanned) -> Decision
+fn declaration(journal: &[u8], scanned: Scanned) -> Decision
     requires { ⌜ Tells scanned (readJournal (now journal)) ⌝ }
     ensures { λ r. ⌜ r ≡ decisionOn Declare (now (journal .entry)) ⌝ }
 {
@@ -49,7 +51,7 @@ pub fn declaration(journal: &[u8], scanned: Scanned) -> Decision
 }
 
 // After the common refusals, 15.
-pub fn next_period(journal: &[u8], scanned: Scanned) -> Decision
+fn next_period(journal: &[u8], scanned: Scanned) -> Decision
     requires { ⌜ Tells scanned (readJournal (now journal)) ⌝ }
     ensures { λ r. ⌜ r ≡ decisionOn BeginPeriod (now (journal .entry)) ⌝ }
 {
@@ -59,4 +61,16 @@ pub fn next_period(journal: &[u8], scanned: Scanned) -> Decision
     }
     let refusal = row(!period_fits(scanned.progress), 15, 0);
     decide(refusal, Event::NextPeriod)
+}
+
+// Any entry that comes without readings.
+pub fn change(journal: &[u8], scanned: Scanned, c: Change) -> Decision
+    requires { ⌜ Tells scanned (readJournal (now journal)) ⌝ }
+    ensures { λ r. ⌜ r ≡ decisionOn (entryOf c) (now (journal .entry)) ⌝ }
+{
+    match c {
+        Change::Amend(standards) => amendment(journal, scanned, standards),
+        Change::BeginPeriod => next_period(journal, scanned),
+        Change::Declare => declaration(journal, scanned),
+    }
 }

@@ -1,4 +1,5 @@
 pub mod Call
+pub mod Change
 pub mod Refusals
 pub mod Answers
 pub mod Model

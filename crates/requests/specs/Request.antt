@@ -6,17 +6,16 @@ use mathlib.Core.Option.{Option}
 use Prim.Native.Nat.{ℕ, _≤_}
 use lib.ListN.{length}
 use Rattle.reference.specs.Call as calls
+use Rattle.reference.specs.Change.{entryOf}
 use Rattle.protocol.specs.KeyLine as lines
 use Rattle.requests.specs.declared.request.Request.{Request}
-use Rattle.requests.specs.declared.request.Request.the-variants.{SetUp, EnterEngine, Amend, BeginPeriod, Declare, WriteMarks, Refuse}
+use Rattle.requests.specs.declared.request.Request.the-variants.{SetUp, EnterEngine, Enter, WriteMarks, Refuse}
 
 -- the command of a request, with the line's numbers
 abbrev pub commandFrom : Request → List ℕ → lines.Command
 commandFrom (SetUp s) vs = lines.Make (calls.SetUp s)
 commandFrom EnterEngine vs = lines.Make (lines.engineFrom vs)
-commandFrom (Amend standards) vs = lines.Make (calls.Enter (calls.Amend standards))
-commandFrom BeginPeriod vs = lines.Make (calls.Enter calls.BeginPeriod)
-commandFrom Declare vs = lines.Make (calls.Enter calls.Declare)
+commandFrom (Enter change) vs = lines.Make (calls.Enter (entryOf change))
 commandFrom WriteMarks vs = lines.Make (calls.WriteMarks 80)
 commandFrom (Refuse number) vs = lines.Refuse number
 
@@ -24,9 +23,7 @@ commandFrom (Refuse number) vs = lines.Refuse number
 abbrev pub Enough : Request → List ℕ → Type 0
 Enough (SetUp s) vs = Unit {0}
 Enough EnterEngine vs = 1 ≤ length vs
-Enough (Amend standards) vs = Unit {0}
-Enough BeginPeriod vs = Unit {0}
-Enough Declare vs = Unit {0}
+Enough (Enter change) vs = Unit {0}
 Enough WriteMarks vs = Unit {0}
 Enough (Refuse number) vs = Unit {0}
 

@@ -7,6 +7,7 @@ ghost use Rattle.protocol.specs.KeyLine.{setupFrom, engineFrom, amendmentFrom, 
 ghost use Rattle.reference.specs.Call.{SetUp};
 ghost use Rattle.requests.specs.Request.{Asks};
 ghost use Rattle.requests.specs.declared.request.Request.the-variants.{Refuse};
+use reference::Change;
 use rounding::Factor;
 use year::Factors;
 use year::Pair;
@@ -16,9 +17,7 @@ use year::Setup;
 pub enum Request {
     SetUp(Setup),
     EnterEngine,
-    Amend(Pair),
-    BeginPeriod,
-    Declare,
+    Enter(Change),
     WriteMarks,
     Refuse(u8),
 }
@@ -73,10 +72,10 @@ fn amendment_request(values: &[u32]) -> Request
     if values.len() != 2 {
         return Request::Refuse(2);
     }
-    Request::Amend(Pair {
+    Request::Enter(Change::Amend(Pair {
         hcnox: values[0],
         co: values[1],
-    })
+    }))
 }
 
 // A request that takes no numbers.
@@ -103,10 +102,10 @@ pub fn requested(letter: u8, values: &[u32]) -> Request
         return amendment_request(values);
     }
     if letter == b'P' {
-        return bare_request(Request::BeginPeriod, values);
+        return bare_request(Request::Enter(Change::BeginPeriod), values);
     }
     if letter == b'X' {
-        return bare_request(Request::Declare, values);
+        return bare_request(Request::Enter(Change::Declare), values);
     }
     if letter == b'L' {
         return bare_request(Request::WriteMarks, values);

@@ -1,6 +1,7 @@
 -- `make` meets its contract. Assumes nothing.
 use mathlib.Core.Path.{refl, ap}
-use Rattle.reference.specs.Call.{Amend, BeginPeriod, Declare, SetUp, Enter}
+use Rattle.reference.specs.Call.{SetUp, Enter}
+use Rattle.reference.specs.Change.{entryOf}
 use Rattle.protocol.specs.KeyLine.{engineFrom}
 use Rattle.requests.specs.Request.{commandFrom}
 use Rattle.commands.proofs.Made.{answered, listed, refused}
@@ -29,32 +30,14 @@ write-answer-requires-2 c κs = search needs
 enum-known-request-2 : tie.Need-enum-known-request-2
 enum-known-request-2 c = search needs
 
-amend-requires : tie.Need-amend-requires
-amend-requires c κs = search needs
+enter-change-requires : tie.Need-enter-change-requires
+enter-change-requires c κs = search needs
 
 write-answer-requires-3 : tie.Need-write-answer-requires-3
 write-answer-requires-3 c κs = search needs
 
 enum-told-2 : tie.Need-enum-told-2
 enum-told-2 c = search needs
-
-begin-period-requires : tie.Need-begin-period-requires
-begin-period-requires c κs = search needs
-
-write-answer-requires-4 : tie.Need-write-answer-requires-4
-write-answer-requires-4 c κs = search needs
-
-enum-told-3 : tie.Need-enum-told-3
-enum-told-3 c = search needs
-
-declare-requires : tie.Need-declare-requires
-declare-requires c κs = search needs
-
-write-answer-requires-5 : tie.Need-write-answer-requires-5
-write-answer-requires-5 c κs = search needs
-
-enum-told-4 : tie.Need-enum-told-4
-enum-told-4 c = search needs
 
 list-marks-requires : tie.Need-list-marks-requires
 list-marks-requires c κs = search needs
@@ -106,9 +89,10 @@ returns-3 c =
     let written = c .before .before in
     let called = written .before .before .before .before in
     let a = called .before .before .before .before .before .before .before .before .args in
-    let is = c .before .before .before .before .before .before .before .before .before .request2 .given .1 in
-    answered (commandFrom (a .request) (a .values .now)) (a .journal .now) (a .out .now) _ _ _ (Enter (Amend _)) _ (ap (λ q. commandFrom q (a .values .now)) is) refl
-    (called .amend .ensures .0) (called .amend .ensures .1 .1) (written .write-answer3 .ensures)
+    let given = c .before .before .before .before .before .before .before .before .before .request2 .given in
+    let is = given .1 in
+    answered (commandFrom (a .request) (a .values .now)) (a .journal .now) (a .out .now) _ _ _ (Enter (entryOf (given .0 .0))) _ (ap (λ q. commandFrom q (a .values .now)) is) refl
+    (called .enter-change .ensures .0) (called .enter-change .ensures .1 .1) (written .write-answer3 .ensures)
 
 same-length-7 : tie.Need-same-length-7
 same-length-7 c = search needs
@@ -118,46 +102,16 @@ same-length-8 c = search needs
 
 returns-4 : tie.Need-returns-4
 returns-4 c =
-    let written = c .before .before in
-    let called = written .before .before .before .before in
-    let a = called .before .before .before .before .before .before .before .args in
-    let is = c .before .before .before .before .before .before .before .before .enum-told2 .given .1 in
-    answered (commandFrom (a .request) (a .values .now)) (a .journal .now) (a .out .now) _ _ _ (Enter BeginPeriod) _ (ap (λ q. commandFrom q (a .values .now)) is) refl
-    (called .begin-period .ensures .0) (called .begin-period .ensures .1 .1) (written .write-answer4 .ensures)
+    let a = c .before .before .before .before .before .before .before .before .before .before .args in
+    let is = c .before .before .before .before .before .enum-told2 .given .1 in
+    listed (commandFrom (a .request) (a .values .now)) (a .journal .now) (a .out .now) _ _ _ 80 (ap (λ q. commandFrom q (a .values .now)) is) refl
+    (c .before .before .list-marks .ensures)
 
 same-length-9 : tie.Need-same-length-9
 same-length-9 c = search needs
 
-same-length-10 : tie.Need-same-length-10
-same-length-10 c = search needs
-
 returns-5 : tie.Need-returns-5
 returns-5 c =
-    let written = c .before .before in
-    let called = written .before .before .before .before in
-    let a = called .before .before .before .before .before .before .before .args in
-    let is = c .before .before .before .before .before .before .before .before .enum-told3 .given .1 in
-    answered (commandFrom (a .request) (a .values .now)) (a .journal .now) (a .out .now) _ _ _ (Enter Declare) _ (ap (λ q. commandFrom q (a .values .now)) is) refl
-    (called .declare .ensures .0) (called .declare .ensures .1 .1) (written .write-answer5 .ensures)
-
-same-length-11 : tie.Need-same-length-11
-same-length-11 c = search needs
-
-same-length-12 : tie.Need-same-length-12
-same-length-12 c = search needs
-
-returns-6 : tie.Need-returns-6
-returns-6 c =
-    let a = c .before .before .before .before .before .before .before .before .before .before .args in
-    let is = c .before .before .before .before .before .enum-told4 .given .1 in
-    listed (commandFrom (a .request) (a .values .now)) (a .journal .now) (a .out .now) _ _ _ 80 (ap (λ q. commandFrom q (a .values .now)) is) refl
-    (c .before .before .list-marks .ensures)
-
-same-length-13 : tie.Need-same-length-13
-same-length-13 c = search needs
-
-returns-7 : tie.Need-returns-7
-returns-7 c =
     let a = c .before .before .before .before .before .before .before .before .before .before .args in
     let is = c .before .before .before .before .before .request3 .given .1 in
     refused (commandFrom (a .request) (a .values .now)) (a .journal .now) (a .out .now) _ _ _ _ (ap (λ q. commandFrom q (a .values .now)) is) refl
@@ -174,15 +128,9 @@ make-spec =
     enter-requires
     write-answer-requires-2
     enum-known-request-2
-    amend-requires
+    enter-change-requires
     write-answer-requires-3
     enum-told-2
-    begin-period-requires
-    write-answer-requires-4
-    enum-told-3
-    declare-requires
-    write-answer-requires-5
-    enum-told-4
     list-marks-requires
     enum-known-request-3
     write-refusal-requires
@@ -199,10 +147,4 @@ make-spec =
     same-length-8
     returns-4
     same-length-9
-    same-length-10
-    returns-5
-    same-length-11
-    same-length-12
-    returns-6
-    same-length-13
-    returns-7)
+    returns-5)

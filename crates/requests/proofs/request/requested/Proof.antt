@@ -3,7 +3,8 @@ use borrow.Author.Needs.{needs}
 use mathlib.Core.Path.{refl}
 use Rattle.reference.specs.Call as calls
 use Rattle.protocol.specs.KeyLine.{callOf}
-use Rattle.requests.specs.declared.request.Request.the-variants.{BeginPeriod, Declare, WriteMarks}
+use Rattle.requests.specs.declared.request.Request.the-variants.{Enter, WriteMarks}
+use Rattle.reference.specs.declared.Change.the-variants.{BeginPeriod, Declare}
 use Rattle.requests.proofs.Asking.{bare, other-letter}
 use Rattle.requests.proofs.request.requested.Statement.{statement}
 use Rattle.requests.proofs.request.requested.Tie as tie
@@ -36,7 +37,7 @@ returns-4 : tie.Need-returns-4
 unfolding callOf
 returns-4 c =
     let vs = c .before .before .before .before .before .before .args .values .now in
-    rw (c .before .if4 .taken, c .bare-request .ensures) (bare vs (calls.Enter calls.BeginPeriod) BeginPeriod (record { command = refl; enough = tt }))
+    rw (c .before .if4 .taken, c .bare-request .ensures) (bare vs (calls.Enter calls.BeginPeriod) (Enter BeginPeriod) (record { command = refl; enough = tt }))
 
 bare-request-requires-2 : tie.Need-bare-request-requires-2
 bare-request-requires-2 c κs = search needs
@@ -45,7 +46,7 @@ returns-5 : tie.Need-returns-5
 unfolding callOf
 returns-5 c =
     let vs = c .before .before .before .before .before .before .before .args .values .now in
-    rw (c .before .if5 .taken, c .bare-request2 .ensures) (bare vs (calls.Enter calls.Declare) Declare (record { command = refl; enough = tt }))
+    rw (c .before .if5 .taken, c .bare-request2 .ensures) (bare vs (calls.Enter calls.Declare) (Enter Declare) (record { command = refl; enough = tt }))
 
 bare-request-requires-3 : tie.Need-bare-request-requires-3
 bare-request-requires-3 c κs = search needs
