@@ -1,14 +1,13 @@
 -- Laws of the arrays of tested engines: how many engines they say, one pollutant's part, an earlier part, one engine more.
 -- Assumes nothing.
-use mathlib.Core.Path.{_≡_, refl, sym, ap, _∙_}
-use mathlib.Core.Bool.{Bool, true, false, _||_}
+use mathlib.Core.Path.{_≡_, refl, ap, _∙_}
+use mathlib.Core.Bool.{Bool, false, _||_}
 use mathlib.Core.List.{List, _∷_}
 use mathlib.Core.Logic.{⊎-elim}
-use Prim.Native.Nat.{ℕ, zero, suc, _+_, _-_, _≤_, _<_}
+use Prim.Native.Nat.{ℕ, zero, suc, _+_, _≤_, _<_}
 use native.Mathlib.Nat.{le-suc-iff}
 use native.Mathlib.Numerals.{add-one}
 use native.Mathlib.Omega.{arith}
-use borrow.Author.Tests.{eq-eqb, ne-eqb}
 use lib.Dec.{eqb}
 use lib.ListN.{length, getD, set, length-set}
 use lib.Seq.{getD-set-same, getD-set-other}
@@ -109,18 +108,6 @@ among numbers number (suc i) = eqb (getD numbers i 0) number || among numbers nu
 pub tested-among : (e : Engines) (number i : ℕ) → isTested number (testedTo e i) ≡ among (e .numbers) number i
 tested-among e number zero = refl
 tested-among e number (suc i) = ap (λ (b : Bool). eqb (getD (e .numbers) i 0) number || b) (tested-among e number i)
-
-among-next : (numbers : List ℕ) (number i : ℕ) → 1 ≤ i → among numbers number i ≡ (eqb (getD numbers (i - 1) 0) number || among numbers number (i - 1))
-among-next numbers number zero h = absurd (omega arith)
-among-next numbers number (suc i) h = let e : suc i - 1 ≡ i = omega arith in rw e
-
--- at the last of them: found, or passed over
-module _ (numbers : List ℕ) (number i : ℕ) (h : 1 ≤ i) where
-  pub among-found : getD numbers (i - 1) 0 ≡ number → among numbers number i ≡ true
-  among-found e = among-next numbers number i h ∙ rw (eq-eqb _ _ e)
-
-  pub among-passed : (getD numbers (i - 1) 0 ≡ number → ⊥) → among numbers number (i - 1) ≡ among numbers number i
-  among-passed f = sym (among-next numbers number i h ∙ rw (ne-eqb _ _ f))
 
 -- a pollutant's arrays are in range where its history is
 pub tested-fits : (q : Pollutant) (e : Engines) (k : ℕ) → HistoryInRange 40 (history q (tested e)) → k ≤ 8192

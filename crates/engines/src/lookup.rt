@@ -4,18 +4,19 @@ ghost use Prim.Native.Nat.{_≤_};
 ghost use Rattle.year.specs.Replay.{isTested};
 ghost use Rattle.engines.specs.Engines.{tested};
 use crate::Engines;
+use buffers::either;
 
 pub fn is_tested(e: Engines, number: u32) -> bool
     requires { ⌜ e .count ≤ 40 ⌝ }
     ensures { λ r. ⌜ r ≡ isTested number (tested e) ⌝ }
 {
     let numbers = e.numbers;
-    let mut i = e.count;
-    while 0 < i {
-        i -= 1;
-        if numbers[i] as u32 == number {
-            return true;
-        }
+    let count = e.count;
+    let mut found = false;
+    let mut i: usize = 0;
+    while i < count {
+        found = either(numbers[i] as u32 == number, found);
+        i += 1;
     }
-    false
+    found
 }

@@ -1,55 +1,49 @@
--- `lookup::is_tested` meets its contract. The invariant: what is left to look at tells the whole. The measure is what is left. Assumes nothing.
-use mathlib.Core.Path.{_≡_, refl, sym, _∙_}
-use Prim.Native.Nat.{_-_, _≤_}
+-- `lookup::is_tested` meets its contract. The invariant: what was found is what the engines before i tell. The measure is what is left. Assumes nothing.
+use mathlib.Core.Path.{_≡_, refl, sym, ap, _∙_}
+use Prim.Native.Nat.{_+_, _-_, _≤_}
+use native.Mathlib.Numerals.{add-one}
 use native.Mathlib.Omega.{arith}
 use Rattle.engines.proofs.Sized.{number-fits}
-use Rattle.engines.proofs.Arrays.{among, among-found, among-passed, tested-among}
+use Rattle.engines.proofs.Arrays.{among, tested-among}
 use Rattle.engines.proofs.lookup.is_tested.Statement.{statement}
 use Rattle.engines.proofs.lookup.is_tested.Tie as tie
 
 abbrev Inv-loop : tie.InvT-loop
-Inv-loop number numbers i₀ i = (i ≤ 40) × (among numbers number i ≡ among numbers number i₀)
+Inv-loop number numbers count found₀ i₀ found i = (i ≤ count) × (found ≡ among numbers number i)
 
 abbrev μ-loop : tie.MeasureT-loop
-μ-loop number numbers i₀ i = i
+μ-loop number numbers count found₀ i₀ found i = count - i
 
 loop-holds : tie.Need-loop-holds Inv-loop μ-loop
-loop-holds c = (c .before .pre, refl)
+loop-holds c = (omega arith, refl)
 
-sub-i : tie.Need-sub-i Inv-loop μ-loop
-sub-i c = omega arith
+mul-either : tie.Need-mul-either Inv-loop μ-loop
+mul-either c = omega (arith, c .before .before .before .pre)
 
-mul-if1 : tie.Need-mul-if1 Inv-loop μ-loop
-mul-if1 c = omega arith
+array-read-either : tie.Need-array-read-either Inv-loop μ-loop
+array-read-either c = omega (arith, c .before .before .before .pre)
 
-array-read-if1 : tie.Need-array-read-if1 Inv-loop μ-loop
-array-read-if1 c = omega arith
+cast-either : tie.Need-cast-either Inv-loop μ-loop
+cast-either c = let s = c .before .before .before in omega (arith, number-fits (s .args .e) _ (s .good .0) (c .before .loop .i))
 
-cast-if1 : tie.Need-cast-if1 Inv-loop μ-loop
-cast-if1 c = let s = c .before .before .before in omega (arith, number-fits (s .args .e) _ (s .good .0) (c .before .loop .i - 1))
+either-requires : tie.Need-either-requires Inv-loop μ-loop
+either-requires c κs = tt
 
-returns : tie.Need-returns Inv-loop μ-loop
-returns c =
-    let l = c .before .before in
-    let a = l .before .before .args in
-    sym (tested-among (a .e) (a .number) (a .e .count) ∙ sym (l .loop .inv .1)
-    ∙ among-found (a .e .numbers) (a .number) (l .loop .i) (omega arith) (c .if1 .taken))
+add-i : tie.Need-add-i Inv-loop μ-loop
+add-i c = omega arith
 
 loop-less : tie.Need-loop-less Inv-loop μ-loop
 loop-less c = omega arith
 
 loop-again : tie.Need-loop-again Inv-loop μ-loop
-loop-again c =
-    let l = c .before .before in
-    let a = l .before .before .args in
-    (omega arith, among-passed (a .e .numbers) (a .number) (l .loop .i) (omega arith) (c .if1 .left) ∙ l .loop .inv .1)
+loop-again c = (omega arith, rw add-one (c .either .ensures ∙ rw (c .before .before .loop .inv .1)))
 
-returns-2 : tie.Need-returns-2 Inv-loop μ-loop
-returns-2 c =
+returns : tie.Need-returns Inv-loop μ-loop
+returns c =
     let l = c .before in
     let a = l .before .before .args in
-    let none : l .loop .i ≡ 0 = omega arith in
-    sym (tested-among (a .e) (a .number) (a .e .count) ∙ sym (rw none at (l .loop .inv .1)))
+    let whole : l .loop .i ≡ a .e .count = omega arith in
+    l .loop .inv .1 ∙ ap (among (a .e .numbers) (a .number)) whole ∙ sym (tested-among (a .e) (a .number) (a .e .count))
 
 pub is-tested-spec : {M : Type 1} → statement M
 is-tested-spec =
@@ -58,11 +52,11 @@ is-tested-spec =
     Inv-loop
     μ-loop
     loop-holds
-    sub-i
-    mul-if1
-    array-read-if1
-    cast-if1
-    returns
+    mul-either
+    array-read-either
+    cast-either
+    either-requires
+    add-i
     loop-less
     loop-again
-    returns-2)
+    returns)
