@@ -12,12 +12,12 @@ use Rattle.year.specs.Verdict.{verdict}
 use Rattle.year.specs.Admissible.{closed, admissible}
 use Rattle.journal.specs.Read.{readAs}
 use Rattle.reference.specs.Refusals.{refusals, refusal}
-use Rattle.reference.specs.Answers.{journalAfter, answer, outAfter, marksPart}
+use Rattle.reference.specs.Answers.{journalAfter, answer, outAfter, outPart}
 use Rattle.reference.specs.Model.{stepModel}
 use Rattle.reference.specs.Cases.{Cases}
 
 pub cases : Cases
-unfolding nearestEven variation t95 sampleSize sizeReached compared failed undecided put periods needs verdict closed admissible readAs refusals refusal journalAfter answer outAfter marksPart stepModel
+unfolding nearestEven variation t95 sampleSize sizeReached compared failed undecided put periods needs verdict closed admissible readAs refusals refusal journalAfter answer outAfter outPart stepModel
 cases =
     record {
       journalSize = refl;

@@ -15,7 +15,7 @@ use Rattle.buffers.specs.Bytes.{put, Outside}
 use Rattle.buffers.specs.Rows.{applies, FirstApplies, NoneApplies}
 use Rattle.buffers.proofs.Lists.{length-put, put-other}
 use Rattle.buffers.proofs.Rows.{first-is, first-applies, first-none, none-is}
-use Rattle.buffers.proofs.Tests.{by-test}
+use Rattle.buffers.proofs.Tests.{by-test, cond-same}
 use Rattle.cumsum.specs.Marks.{markByte}
 use Rattle.year.specs.declared.Setup.{Setup}
 use Rattle.year.specs.declared.Event.{Event}
@@ -28,11 +28,11 @@ use Rattle.journal.specs.Encode.{slotPlace, slotOf, append}
 use Rattle.journal.specs.Read.{readJournal}
 use Rattle.journal.proofs.Encoded.{length-slot}
 use Rattle.journal.proofs.OneJournal.{demand}
-use Rattle.reference.specs.Call.{Entry, Call, SetUp, Enter, ReadStatus, WriteMarks, eventOf}
+use Rattle.reference.specs.Call.{Entry, Form, Marks, Write, Call, SetUp, Enter, Ask, eventOf}
 use Rattle.reference.specs.Refusals.{refusals, refusal}
-use Rattle.reference.specs.Answers.{refusalsOn, refusalOn, withEntry, written, journalAfter, noStatus, statusOf, answer, Told, answerOf, told, markBytes, outAfter, marksPart}
+use Rattle.reference.specs.Answers.{refusalsOn, refusalOn, withEntry, written, journalAfter, noStatus, statusOf, answer, Outcome, outcomeOf, outcome, outBytes, outAfter, outPart}
 use Rattle.reference.specs.Demand1.{Demand1}
-use Rattle.reference.proofs.Given.{accepted-gives, refused-gives, refused-answer, answer-told, accepted-size, accepted-refusal, entry-room}
+use Rattle.reference.proofs.Given.{accepted-gives, refused-gives, refused-answer, answer-outcome, accepted-size, accepted-refusal, entry-room}
 use Rattle.reference.proofs.Validity.{refusals-numbered, setup-valid, not-refused}
 
 -- ---- refused calls
@@ -41,21 +41,28 @@ refused-journal : (call : Call) (journal : List ℕ) → refusalOn call journal 
 unfolding journalAfter
 refused-journal call journal h = refused-gives call journal (written call journal) journal h
 
-refused-out : (journal out : List ℕ) → refusalOn (WriteMarks (length out)) journal ≢ 0 → outAfter journal out ≡ out
-unfolding outAfter
-refused-out journal out h = refused-gives (WriteMarks (length out)) journal (put out 0 (markBytes (readJournal journal))) out h
+module _ (form : Form) (journal out : List ℕ) where
+  abbrev writing : Call
+  writing = Ask (Write form (length out))
 
-refused-part : (journal out : List ℕ) → refusalOn (WriteMarks (length out)) journal ≢ 0 → marksPart journal out ≡ []
-unfolding marksPart
-refused-part journal out h = refused-gives (WriteMarks (length out)) journal (markBytes (readJournal journal)) [] h
+  abbrev bytes : List ℕ
+  bytes = outBytes form (readJournal journal)
+
+  refused-out : refusalOn writing journal ≢ 0 → outAfter form journal out ≡ out
+  unfolding outAfter
+  refused-out h = refused-gives writing journal (put out 0 bytes) out h
+
+  refused-part : refusalOn writing journal ≢ 0 → outPart form journal out ≡ []
+  unfolding outPart
+  refused-part h = refused-gives writing journal bytes [] h
 
 module _ (call : Call) (journal : List ℕ) where
-  refused-status : refusalOn call journal ≢ 0 → answerOf (answer call journal) .status ≡ noStatus
-  refused-status h = ap (λ a. answerOf a .status) (refused-answer call journal h)
+  refused-status : refusalOn call journal ≢ 0 → outcomeOf (answer call journal) .status ≡ noStatus
+  refused-status h = ap (λ a. outcomeOf a .status) (refused-answer call journal h)
 
-  returned : answerOf (answer call journal) .refusal ≡ refusalOn call journal
-  unfolding told
-  returned = ap (λ (t : Told). t .refusal) (answer-told call journal)
+  returned : outcomeOf (answer call journal) .refusal ≡ refusalOn call journal
+  unfolding outcome
+  returned = ap (λ (t : Outcome). t .refusal) (answer-outcome call journal)
 
 -- ---- a setup
 
@@ -77,7 +84,7 @@ by-entry P entry journal same more =
     accepted NoSetup e h = same
     accepted (Year s es) e h =
         let n = accepted-size (Enter entry) journal h in
-        more (eventOf s entry) n (omega (arith, entry-room entry journal s es e h))
+        more (eventOf (replay s es) entry) n (omega (arith, entry-room entry journal s es e h))
 
 module _ (journal : List ℕ) (e : Event) (n : length journal ≡ 544) (room : slotPlace (getD journal 24 0) + 8 ≤ length journal) where
   slot-fits : slotPlace (getD journal 24 0) + length (slotOf e) ≤ length journal
@@ -101,28 +108,29 @@ module _ (journal : List ℕ) (e : Event) (n : length journal ≡ 544) (room : s
           by (yes l) = inl l
           by (no f) = ⊎-elim (λ e. absurd (k (sym e))) inr (eq-or-lt-of-le (omega arith))
 
--- ---- marks
+-- ---- an output: it fits, where the call is accepted
 
-pub out-fits : (journal : List ℕ) (size : ℕ) → refusalOn (WriteMarks size) journal ≡ 0 → 2 * statusOf (readJournal journal) .n ≤ size
-unfolding refusals
-out-fits journal size h = by (readJournal journal) (not-refused (length journal) (WriteMarks size) (readJournal journal) h 16)
-  where
-    by : (model : Model) → applies (refusals (length journal) (WriteMarks size) model) 16 ≡ false → 2 * statusOf model .n ≤ size
-    by NoSetup row = omega arith
-    by (Year s es) row = ltb-false size (2 * length (replay s es .tested)) row
-
-pub mark-bytes : (model : Model) → length (markBytes model) ≡ 2 * statusOf model .n
+pub mark-bytes : (model : Model) → length (outBytes Marks model) ≡ 2 * statusOf model .n
 mark-bytes NoSetup = refl
 mark-bytes (Year s es) = length-map (printed 1024 (replay s es)) markByte ∙ printed-length judged 1024 (replay s es .tested)
 
--- to prove a fact of the output after the marks call, prove it of the same output, and of the marks put at its front where they fit
-by-marks : (P : List ℕ → Type 0) (journal out : List ℕ) → P out
-    → (0 + length (markBytes (readJournal journal)) ≤ length out → P (put out 0 (markBytes (readJournal journal)))) → P (outAfter journal out)
+pub out-fits : (form : Form) (journal : List ℕ) (size : ℕ) → refusalOn (Ask (Write form size)) journal ≡ 0 → length (outBytes form (readJournal journal)) ≤ size
+unfolding refusals
+out-fits Marks journal size h =
+    rw (mark-bytes (readJournal journal)) (by (readJournal journal) (not-refused (length journal) (Ask (Write Marks size)) (readJournal journal) h 16))
+  where
+    by : (model : Model) → applies (refusals (length journal) (Ask (Write Marks size)) model) 16 ≡ false → 2 * statusOf model .n ≤ size
+    by NoSetup row = omega arith
+    by (Year s es) row = ltb-false size (2 * length (replay s es .tested)) row
+
+-- to prove a fact of the output after a call, prove it of the same output, and of the form's bytes put at its front where they fit
+by-output : (P : List ℕ → Type 0) (form : Form) (journal out : List ℕ) → P out
+    → (0 + length (bytes form journal out) ≤ length out → P (put out 0 (bytes form journal out))) → P (outAfter form journal out)
 unfolding outAfter
-by-marks P journal out same more =
-    by-test P (eqb (refusalOn (WriteMarks (length out)) journal) 0) (put out 0 (markBytes (readJournal journal))) out
-    (λ h. let fits = out-fits journal (length out) (eqb-true (refusalOn (WriteMarks (length out)) journal) 0 h) in
-    more (omega (arith, mark-bytes (readJournal journal)))) (λ _. same)
+by-output P form journal out same more =
+    let call = writing form journal out in
+    by-test P (eqb (refusalOn call journal) 0) (put out 0 (bytes form journal out)) out
+    (λ h. more (omega (arith, out-fits form journal (length out) (eqb-true (refusalOn call journal) 0 h)))) (λ _. same)
 
 -- ---- the first refusal that applies
 
@@ -146,16 +154,16 @@ demand-1 =
       entryWritten = λ entry journal s es e h. accepted-gives (Enter entry) journal (written (Enter entry) journal) journal h ∙ rw e;
       entryKept = λ entry journal i k o. by-entry (λ b. getD b i 0 ≡ getD journal i 0) entry journal refl (λ e n room. append-kept journal e n room i k o);
       entrySize = λ entry journal. by-entry (λ b. length b ≡ length journal) entry journal refl (append-size journal);
-      statusKept = λ journal. by-test (λ (b : List ℕ). b ≡ journal) (eqb (refusalOn ReadStatus journal) 0) journal journal (λ _. refl) (λ _. refl);
-      marksKept = λ size journal. by-test (λ (b : List ℕ). b ≡ journal) (eqb (refusalOn (WriteMarks size) journal) 0) journal journal (λ _. refl) (λ _. refl);
-      outKept = λ journal out i h. by-marks (λ b. getD b i 0 ≡ getD out i 0) journal out refl
-          (λ fits. put-other out 0 (markBytes (readJournal journal)) i fits (inr (omega (arith, mark-bytes (readJournal journal)))));
-      outSize = λ journal out. by-marks (λ b. length b ≡ length out) journal out refl (length-put out 0 (markBytes (readJournal journal)));
+      queryKept = λ query journal. cond-same (eqb (refusalOn (Ask query) journal) 0) journal;
+      outKept = λ form journal out i h. by-output (λ b. getD b i 0 ≡ getD out i 0) form journal out refl
+          (λ fits. put-other out 0 (bytes form journal out) i fits (inr (omega arith)));
+      outSize = λ form journal out. by-output (λ b. length b ≡ length out) form journal out refl (length-put out 0 (bytes form journal out));
+      marksCount = λ journal. mark-bytes (readJournal journal);
       refusedBy = refused-by;
       accepted = accepted-if;
       order = λ call journal. refl;
       returned = returned;
-      marksReturned = λ journal out. refl;
+      outReturned = λ form journal out. refl;
       refusedStatus = refused-status;
       refusedPart = refused-part;
     }

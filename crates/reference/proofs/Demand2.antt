@@ -7,9 +7,9 @@ use Prim.Native.Nat.{ℕ, _+_, _≤_, _<_}
 use native.Mathlib.Nat.{add-zero}
 use native.Mathlib.Omega.{arith}
 use lib.Dec.{eqb}
-use lib.ListN.{length, take, drop}
-use lib.Seq.{take-append-seam}
+use lib.ListN.{length, take}
 use Rattle.buffers.specs.Bytes.{put}
+use Rattle.buffers.proofs.Lists.{take-put}
 use Rattle.statistics.specs.Spread.{Test, total, deviationOf}
 use Rattle.statistics.specs.declared.SampleSize.{SampleSize}
 use Rattle.statistics.specs.declared.SampleSize.the-variants.{Absent}
@@ -25,8 +25,8 @@ use Rattle.year.proofs.Replayed.{history-length}
 use Rattle.journal.specs.Read.{readJournal}
 use Rattle.journal.proofs.OneJournal.{demand}
 use Rattle.reference.specs.declared.Answer.the-variants.{Accepted}
-use Rattle.reference.specs.Call.{Call, SetUp, Enter, ReadStatus, WriteMarks, isSetup}
-use Rattle.reference.specs.Answers.{refusalOn, journalAfter, statusOf, answer, markBytes, outAfter, marksPart}
+use Rattle.reference.specs.Call.{Form, Marks, ReadStatus, Write, Call, SetUp, Enter, Ask, isSetup}
+use Rattle.reference.specs.Answers.{refusalOn, journalAfter, statusOf, answer, outBytes, outAfter, outPart}
 use Rattle.reference.specs.Model.{accepted}
 use Rattle.reference.specs.Demand2.{figuresOf, Shows, Demand2}
 use Rattle.reference.proofs.Stored.{stored-calls}
@@ -114,30 +114,27 @@ module _ (call : Call) (journal : List ℕ) (h : refusalOn call journal ≡ 0) w
       by : (c : Call) → (isSetup c ≡ false → noSetup (readJournal journal) ≡ false) → noSetup (accepted c (readJournal journal)) ≡ false
       by (SetUp s) year = refl
       by (Enter entry) year = accepted-has (Enter entry) (readJournal journal) (year refl)
-      by ReadStatus year = year refl
-      by (WriteMarks size) year = year refl
+      by (Ask query) year = year refl
 
 -- status on the journal that an accepted call leaves answers the same
-answered : (call : Call) (journal : List ℕ) → refusalOn call journal ≡ 0 → answer call journal ≡ answer ReadStatus (journalAfter call journal)
+answered : (call : Call) (journal : List ℕ) → refusalOn call journal ≡ 0 → answer call journal ≡ answer (Ask ReadStatus) (journalAfter call journal)
 answered call journal h =
     let left = journalAfter call journal in
     let n = stored-calls .step journal (accepted-size call journal h) call .size in
-    let same : statusOf (readJournal (journalAfter ReadStatus left)) ≡ statusOf (readJournal left) = ap (λ b. statusOf (readJournal b)) (demand-1 .statusKept left) in
-    accepted-answer call journal h ∙ ap Accepted (sym same) ∙ sym (accepted-answer ReadStatus left (status-accepted left n (after-year call journal h)))
+    let same : statusOf (readJournal (journalAfter (Ask ReadStatus) left)) ≡ statusOf (readJournal left) = ap (λ b. statusOf (readJournal b)) (demand-1 .queryKept ReadStatus left) in
+    accepted-answer call journal h ∙ ap Accepted (sym same) ∙ sym (accepted-answer (Ask ReadStatus) left (status-accepted left n (after-year call journal h)))
 
 -- ---- the part that is handed back
 
-front : (out bytes : List ℕ) → take (length bytes) (put out 0 bytes) ≡ bytes
-unfolding put
-front out bytes = take-append-seam bytes (drop (0 + length bytes) out)
-
-handed-back : (journal out : List ℕ) → take (length (marksPart journal out)) (outAfter journal out) ≡ marksPart journal out
-unfolding marksPart outAfter
-handed-back journal out = by (eqb (refusalOn (WriteMarks (length out)) journal) 0)
+handed-back : (form : Form) (journal out : List ℕ) → take (length (outPart form journal out)) (outAfter form journal out) ≡ outPart form journal out
+unfolding outPart outAfter
+handed-back form journal out = by (eqb (refusalOn (Ask (Write form (length out))) journal) 0)
   where
-    by : (b : Bool)
-        → take (length (cond b (markBytes (readJournal journal)) [])) (cond b (put out 0 (markBytes (readJournal journal))) out) ≡ cond b (markBytes (readJournal journal)) []
-    by true = front out (markBytes (readJournal journal))
+    bytes : List ℕ
+    bytes = outBytes form (readJournal journal)
+
+    by : (b : Bool) → take (length (cond b bytes [])) (cond b (put out 0 bytes) out) ≡ cond b bytes []
+    by true = take-put out bytes
     by false = refl
 
 pub demand-2 : Demand2
@@ -151,7 +148,7 @@ demand-2 =
       shown = λ call journal s es h e. rw (accepted-answer call journal h, e) (shows (replay s es));
       answered = answered;
       marks = λ journal out s es e h.
-          accepted-gives (WriteMarks (length out)) journal (put out 0 (markBytes (readJournal journal))) out h ∙ rw e;
+          accepted-gives (Ask (Write Marks (length out))) journal (put out 0 (outBytes Marks (readJournal journal))) out h ∙ rw e;
       handedBack = handed-back;
       journals = demand;
     }

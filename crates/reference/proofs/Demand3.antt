@@ -17,8 +17,8 @@ use Rattle.year.specs.Model.{NoSetup, Year, noSetup}
 use Rattle.year.specs.FinerWork.{FinerWork}
 use Rattle.year.proofs.Finer.{finer-work}
 use Rattle.journal.specs.Read.{readJournal}
-use Rattle.reference.specs.Call.{Call, ReadStatus, WriteMarks}
-use Rattle.reference.specs.Answers.{refusalOn, answer, markBytes, marksPart}
+use Rattle.reference.specs.Call.{Marks, ReadStatus, Write, Call, Ask}
+use Rattle.reference.specs.Answers.{refusalOn, answer, outBytes, outPart}
 use Rattle.reference.specs.Model.{modelOf, journalOf}
 use Rattle.reference.specs.Demand2.{Shows}
 use Rattle.reference.specs.Demand3.{statusOn, Calculated, FinerJournal, BeforeSetup, AfterCalls, Demand3}
@@ -29,18 +29,18 @@ use Rattle.reference.proofs.Demand1.{demand-1}
 use Rattle.reference.proofs.Demand2.{demand-2}
 
 module _ (journal : List ℕ) (s : Setup) (es : List Event) (e : readJournal journal ≡ Year s es) where
-  fits : (out : List ℕ) → 2 * length (replay s es .tested) ≤ length out → refusalOn (WriteMarks (length out)) journal ≡ 0
+  fits : (out : List ℕ) → 2 * length (replay s es .tested) ≤ length out → refusalOn (Ask (Write Marks (length out))) journal ≡ 0
   fits out = marks-accepted journal (year-size journal s es e) (length out) s es e
 
-  reads : refusalOn ReadStatus journal ≡ 0
+  reads : refusalOn (Ask ReadStatus) journal ≡ 0
   reads = status-accepted journal (year-size journal s es e) (ap noSetup e)
 
-  part : (out : List ℕ) → 2 * length (replay s es .tested) ≤ length out → marksPart journal out ≡ markBytes (Year s es)
-  unfolding marksPart
-  part out h = accepted-gives (WriteMarks (length out)) journal (markBytes (readJournal journal)) [] (fits out h) ∙ ap markBytes e
+  part : (out : List ℕ) → 2 * length (replay s es .tested) ≤ length out → outPart Marks journal out ≡ outBytes Marks (Year s es)
+  unfolding outPart
+  part out h = accepted-gives (Ask (Write Marks (length out))) journal (outBytes Marks (readJournal journal)) [] (fits out h) ∙ ap (outBytes Marks) e
 
   shown : Shows (statusOn journal) (replay s es)
-  shown = demand-2 .shown ReadStatus journal s es reads (ap readJournal (demand-1 .statusKept journal) ∙ e)
+  shown = demand-2 .shown (Ask ReadStatus) journal s es reads (ap readJournal (demand-1 .queryKept ReadStatus journal) ∙ e)
 
   -- (the newest engine's are at any m the whole year's)
   work : FinerWork 1 (replay s es)

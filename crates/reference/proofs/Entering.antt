@@ -13,10 +13,10 @@ use Rattle.year.specs.declared.Event.{Event}
 use Rattle.year.specs.Replay.{Progress, replay, short, isTested}
 use Rattle.year.specs.Admissible.{closed, eventsFull, enginesFull, numberInRange, resultsInRange, lastPeriod, fits, admissible}
 use Rattle.year.specs.Model.{Year}
-use Rattle.year.proofs.Replayed.{replay-setup}
 use Rattle.year.proofs.Ranges.{fitting}
 use Rattle.journal.specs.Read.{readJournal}
-use Rattle.reference.specs.Call.{Entry, EnterEngine, Amend, BeginPeriod, Declare, Enter, resultsOf, eventOf}
+use Rattle.reference.specs.Call.{Entry, EnterEngine, EnterChange, Enter, resultsOf, eventOf}
+use Rattle.reference.specs.declared.Change.the-variants.{Amend, BeginPeriod, Declare}
 use Rattle.reference.specs.Refusals.{refusals, refusal, countsFit, readingsFit}
 use Rattle.reference.specs.Answers.{refusalOn}
 use Rattle.reference.specs.Demand2.{unreadable}
@@ -33,14 +33,14 @@ module _ (journal : List ℕ) (s : Setup) (es : List Event) (e : readJournal jou
       let both = and-eq-true-iff (not (closed p)) (not (eventsFull p)) .0 (and-eq-true-iff (not (closed p) && not (eventsFull p)) (fits p event) .0 a .0) in
       (not-true (closed p) (both .0), not-true (eventsFull p) (both .1))
 
-  pub could-enter : (entry : Entry) → admissible (replay s es) (eventOf s entry) ≡ true → unreadable entry ≡ false → refusalOn (Enter entry) journal ≡ 0
+  pub could-enter : (entry : Entry) → admissible (replay s es) (eventOf (replay s es) entry) ≡ true → unreadable entry ≡ false → refusalOn (Enter entry) journal ≡ 0
   unfolding refusal refusals
   could-enter (EnterEngine number readings) a r =
-      let event = eventOf s (EnterEngine number readings) in
+      let event = eventOf p (EnterEngine number readings) in
       let running = open-year event a in
       let new = not (isTested number (p .tested)) in
       let count = countInRange (length (readings .hcnox)) in
-      let result = resultsInRange (resultsOf s readings) in
+      let result = resultsInRange (resultsOf (p .setup) readings) in
       let full = and-eq-true-iff (numberInRange number && new && count && result) (not (enginesFull p)) .0 (fitting p event a) in
       let results = and-eq-true-iff (numberInRange number && new && count) result .0 (full .0) in
       let named = and-eq-true-iff (numberInRange number) new .0 (and-eq-true-iff (numberInRange number && new) count .0 (results .0) .0) in
@@ -54,16 +54,15 @@ module _ (journal : List ℕ) (s : Setup) (es : List Event) (e : readJournal jou
         not-true (isTested number (p .tested)) (named .1),
         read .0,
         read .1,
-        replay-setup s es,
         results .1,
         not-true (enginesFull p) (full .1),
       )
-  could-enter (Amend standards) a r =
-      let event = eventOf s (Amend standards) in
+  could-enter (EnterChange (Amend standards)) a r =
+      let event = eventOf p (EnterChange (Amend standards)) in
       let running = open-year event a in
       rw (year-size journal s es e, e, running .0, running .1, fitting p event a)
-  could-enter BeginPeriod a r =
-      let event = eventOf s BeginPeriod in
+  could-enter (EnterChange BeginPeriod) a r =
+      let event = eventOf p (EnterChange BeginPeriod) in
       let running = open-year event a in
       rw (year-size journal s es e, e, running .0, running .1, not-true (lastPeriod p || short p) (fitting p event a))
-  could-enter Declare a r = let running = open-year (eventOf s Declare) a in rw (year-size journal s es e, e, running .0, running .1)
+  could-enter (EnterChange Declare) a r = let running = open-year (eventOf p (EnterChange Declare)) a in rw (year-size journal s es e, e, running .0, running .1)

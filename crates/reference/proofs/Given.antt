@@ -20,9 +20,9 @@ use Rattle.journal.specs.Read.{readJournal}
 use Rattle.journal.proofs.OneJournal.{demand}
 use Rattle.journal.proofs.Reading.{read-few}
 use Rattle.reference.specs.declared.Answer.the-variants.{Accepted, Refused}
-use Rattle.reference.specs.Call.{Entry, Call, Enter, ReadStatus, WriteMarks, eventOf, isSetup}
+use Rattle.reference.specs.Call.{Entry, Marks, ReadStatus, Write, Call, Enter, Ask, eventOf, isSetup}
 use Rattle.reference.specs.Refusals.{refusals, refusal}
-use Rattle.reference.specs.Answers.{refusalOn, refusalsOn, ifAccepted, journalAfter, noStatus, statusOf, answer, answerOf, told}
+use Rattle.reference.specs.Answers.{refusalOn, refusalsOn, ifAccepted, journalAfter, noStatus, statusOf, answer, outcomeOf, outcome}
 use Rattle.reference.specs.Model.{accepted, stepModel}
 use Rattle.reference.proofs.Stored.{stored-calls}
 use Rattle.reference.proofs.Validity.{not-refused, admitted}
@@ -55,12 +55,12 @@ module _ (call : Call) (journal : List ℕ) where
   unfolding answer
   refused-answer h = refused-gives call journal (Accepted status) (Refused number) h
 
-  pub answer-told : answerOf (answer call journal) ≡ told call journal
-  unfolding answer told
-  answer-told = by (eqb number 0) refl
+  pub answer-outcome : outcomeOf (answer call journal) ≡ outcome call journal
+  unfolding answer outcome
+  answer-outcome = by (eqb number 0) refl
     where
       by : (b : Bool) → eqb number 0 ≡ b
-          → answerOf (cond b (Accepted status) (Refused number)) ≡ record { refusal = number; status = cond b status noStatus }
+          → outcomeOf (cond b (Accepted status) (Refused number)) ≡ record { refusal = number; status = cond b status noStatus }
       by true e = rw (eqb-true number 0 e)
       by false e = refl
 
@@ -87,11 +87,11 @@ module _ (call : Call) (journal : List ℕ) (h : refusalOn call journal ≡ 0) w
 
 -- of an accepted entry: its event is admissible, and there is a slot for it
 module _ (entry : Entry) (journal : List ℕ) (s : Setup) (es : List Event) (e : readJournal journal ≡ Year s es) (h : refusalOn (Enter entry) journal ≡ 0) where
-  pub entry-admissible : admissible (replay s es) (eventOf s entry) ≡ true
+  pub entry-admissible : admissible (replay s es) (eventOf (replay s es) entry) ≡ true
   entry-admissible = let a = accepted-refusal (Enter entry) journal h in admitted s es entry (rw e at a)
 
   pub entry-room : getD journal 24 0 < 64
-  entry-room = rw (demand .accepted journal s es e .stored) (read-few journal s es (eventOf s entry) e entry-admissible)
+  entry-room = rw (demand .accepted journal s es e .stored) (read-few journal s es (eventOf (replay s es) entry) e entry-admissible)
 
 -- a journal that is read as a year has 544 bytes
 pub year-size : (journal : List ℕ) (s : Setup) (es : List Event) → readJournal journal ≡ Year s es → length journal ≡ 544
@@ -99,19 +99,19 @@ year-size journal s es e = let j = demand .accepted journal s es e in ap length 
 
 -- status and marks on 544 bytes: accepted where they hold a year and the output has room, otherwise refused by 7
 module _ (journal : List ℕ) (n : length journal ≡ 544) where
-  pub status-accepted : noSetup (readJournal journal) ≡ false → refusalOn ReadStatus journal ≡ 0
+  pub status-accepted : noSetup (readJournal journal) ≡ false → refusalOn (Ask ReadStatus) journal ≡ 0
   unfolding refusal refusals
   status-accepted h = rw (n, h)
 
   pub marks-accepted : (size : ℕ) (s : Setup) (es : List Event) → readJournal journal ≡ Year s es → 2 * length (replay s es .tested) ≤ size
-      → refusalOn (WriteMarks size) journal ≡ 0
+      → refusalOn (Ask (Write Marks size)) journal ≡ 0
   unfolding refusal refusals
   marks-accepted size s es e h = rw (n, e, le-ltb size (2 * length (replay s es .tested)) h)
 
-  pub status-none : readJournal journal ≡ NoSetup → refusalOn ReadStatus journal ≡ 7
+  pub status-none : readJournal journal ≡ NoSetup → refusalOn (Ask ReadStatus) journal ≡ 7
   unfolding refusal refusals
   status-none e = rw (n, e)
 
-  pub marks-none : (size : ℕ) → readJournal journal ≡ NoSetup → refusalOn (WriteMarks size) journal ≡ 7
+  pub marks-none : (size : ℕ) → readJournal journal ≡ NoSetup → refusalOn (Ask (Write Marks size)) journal ≡ 7
   unfolding refusal refusals
   marks-none size e = rw (n, e)

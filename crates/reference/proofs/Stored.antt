@@ -7,13 +7,14 @@ use Prim.Native.Nat.{ℕ}
 use lib.Dec.{eqb}
 use lib.ListN.{length}
 use borrow.Author.Tests.{eqb-true}
+use Rattle.year.specs.Replay.{replay}
 use Rattle.year.specs.Admissible.{valid}
 use Rattle.year.specs.Model.{Model, NoSetup, Year}
 use Rattle.year.proofs.Valid.{valid-next}
 use Rattle.journal.specs.Read.{readJournal}
 use Rattle.journal.proofs.Cases.{cases}
 use Rattle.journal.proofs.OneJournal.{demand}
-use Rattle.reference.specs.Call.{Entry, Call, SetUp, Enter, ReadStatus, WriteMarks, eventOf}
+use Rattle.reference.specs.Call.{Entry, Call, SetUp, Enter, Ask, eventOf}
 use Rattle.reference.specs.Refusals.{refusal}
 use Rattle.reference.specs.Answers.{withEntry, written, journalAfter}
 use Rattle.reference.specs.Model.{withEvent, accepted, stepModel, modelOf, journalOf}
@@ -25,20 +26,17 @@ module _ (journal : List ℕ) (n : length journal ≡ 544) where
   entry-holds : (entry : Entry) (model : Model) → readJournal journal ≡ model → refusal 544 (Enter entry) model ≡ 0 → Holds (withEntry entry model journal) (withEvent entry model)
   entry-holds entry NoSetup e h = record { size = n; reads = e }
   entry-holds entry (Year s es) e h =
+      let event = eventOf (replay s es) entry in
       let a = admitted s es entry h in
-      let v = valid-next s (eventOf s entry) es (demand .accepted journal s es e .valid) a in
-      record {
-        size = ap length (demand .appended journal s es (eventOf s entry) e a) ∙ demand .size s (eventOf s entry ∷ es) v;
-        reads = demand .appendedRead journal s es (eventOf s entry) e a;
-      }
+      let v = valid-next s event es (demand .accepted journal s es e .valid) a in
+      record { size = ap length (demand .appended journal s es event e a) ∙ demand .size s (event ∷ es) v; reads = demand .appendedRead journal s es event e a }
 
   written-holds : (call : Call) → refusal 544 call (readJournal journal) ≡ 0 → Holds (written call journal) (accepted call (readJournal journal))
   written-holds (SetUp s) h =
       let v = setup-valid s (readJournal journal) h in
       record { size = demand .size s [] v; reads = demand .readBack s [] v }
   written-holds (Enter entry) h = entry-holds entry (readJournal journal) refl h
-  written-holds ReadStatus h = record { size = n; reads = refl }
-  written-holds (WriteMarks size) h = record { size = n; reads = refl }
+  written-holds (Ask query) h = record { size = n; reads = refl }
 
   by-refusal : (call : Call) (b : Bool) → eqb (refusal 544 call (readJournal journal)) 0 ≡ b
       → Holds (cond b (written call journal) journal) (cond b (accepted call (readJournal journal)) (readJournal journal))

@@ -6,9 +6,10 @@ use mathlib.Core.List.{List, [], _∷_}
 use Prim.Native.Nat.{ℕ}
 use lib.Dec.{eqb}
 use Rattle.buffers.specs.Bytes.{zeros}
+use Rattle.buffers.proofs.Tests.{cond-same}
 use Rattle.year.specs.Model.{Model, NoSetup, Year, noSetup}
 use Rattle.journal.specs.Encode.{encode}
-use Rattle.reference.specs.Call.{Call, SetUp, Enter, ReadStatus, WriteMarks}
+use Rattle.reference.specs.Call.{Call, SetUp, Enter, Ask}
 use Rattle.reference.specs.Refusals.{refusal}
 use Rattle.reference.specs.Answers.{journalAfter}
 use Rattle.reference.specs.Model.{stepModel, modelOf, journalOf}
@@ -22,10 +23,6 @@ was-none call NoSetup e = refl
 was-none call (Year s es) e = absurd (false≢true (sym (step-has call (Year s es) refl) ∙ ap noSetup e))
 
 module _ (journal : List ℕ) (holds : Holds journal NoSetup) where
-  either-way : (b : Bool) → cond b journal journal ≡ journal
-  either-way true = refl
-  either-way false = refl
-
   -- and it wrote nothing
   leaves : (call : Call) → stepModel call NoSetup ≡ NoSetup → journalAfter call journal ≡ journal
   unfolding journalAfter stepModel
@@ -34,9 +31,8 @@ module _ (journal : List ℕ) (holds : Holds journal NoSetup) where
       by : (b : Bool) → cond b (Year s []) NoSetup ≡ NoSetup → cond b (encode s []) journal ≡ journal
       by true h = absurd (false≢true (ap noSetup h))
       by false h = refl
-  leaves (Enter entry) e = rw (holds .size, holds .reads) (either-way (eqb (refusal 544 (Enter entry) NoSetup) 0))
-  leaves ReadStatus e = rw (holds .size, holds .reads) (either-way (eqb (refusal 544 ReadStatus NoSetup) 0))
-  leaves (WriteMarks size) e = rw (holds .size, holds .reads) (either-way (eqb (refusal 544 (WriteMarks size) NoSetup) 0))
+  leaves (Enter entry) e = rw (holds .size, holds .reads) (cond-same (eqb (refusal 544 (Enter entry) NoSetup) 0) journal)
+  leaves (Ask query) e = rw (holds .size, holds .reads) (cond-same (eqb (refusal 544 (Ask query) NoSetup) 0) journal)
 
 pub untouched : (calls : List Call) → modelOf calls ≡ NoSetup → journalOf calls ≡ zeros 544
 untouched [] e = refl

@@ -19,8 +19,8 @@ use Rattle.year.specs.Replay.{Progress, replay, isTested}
 use Rattle.year.specs.Admissible.{closed, eventsFull, numberInRange, resultsInRange, fits, admissible, valid}
 use Rattle.year.specs.Model.{Model, NoSetup, Year}
 use Rattle.year.proofs.Valid.{valid-next}
-use Rattle.year.proofs.Replayed.{replay-setup}
-use Rattle.reference.specs.Call.{Readings, Entry, EnterEngine, Amend, BeginPeriod, Declare, Call, SetUp, Enter, ReadStatus, WriteMarks, resultsOf, eventOf}
+use Rattle.reference.specs.Call.{Readings, Entry, EnterEngine, EnterChange, Call, SetUp, Enter, Ask, resultsOf, eventOf}
+use Rattle.reference.specs.declared.Change.the-variants.{Amend, BeginPeriod, Declare}
 use Rattle.reference.specs.Refusals.{refusals, refusal}
 use Rattle.reference.specs.Model.{accepted, stepModel, modelOf}
 
@@ -45,27 +45,26 @@ module _ (s : Setup) (es : List Event) where
   no entry h = not-refused 544 (Enter entry) (Year s es) h
 
   engine-fits : (number : ℕ) (readings : Readings) → refusal 544 (Enter (EnterEngine number readings)) (Year s es) ≡ 0
-      → fits (replay s es) (eventOf s (EnterEngine number readings)) ≡ true
+      → fits (replay s es) (eventOf (replay s es) (EnterEngine number readings)) ≡ true
   unfolding refusals
   engine-fits number readings h =
       let row = no (EnterEngine number readings) h in
       let free = or-false (not (numberInRange number)) (isTested number (replay s es .tested)) (row 10) in
       let counts = and-eq-true-iff (eqb (length (readings .hcnox)) (length (readings .co))) (countInRange (length (readings .hcnox))) .0 (not-false _ (row 11)) in
       let results = not-false (resultsInRange (resultsOf (replay s es .setup) readings)) (row 13) in
-      and-true (and-true (and-true (and-true (not-false (numberInRange number) (free .0)) (false-not (free .1))) (counts .1))
-      (rw (replay-setup s es) at results)) (false-not (row 14))
+      and-true (and-true (and-true (and-true (not-false (numberInRange number) (free .0)) (false-not (free .1))) (counts .1)) results) (false-not (row 14))
 
-  entry-fits : (entry : Entry) → refusal 544 (Enter entry) (Year s es) ≡ 0 → fits (replay s es) (eventOf s entry) ≡ true
+  entry-fits : (entry : Entry) → refusal 544 (Enter entry) (Year s es) ≡ 0 → fits (replay s es) (eventOf (replay s es) entry) ≡ true
   unfolding refusals
   entry-fits (EnterEngine number readings) h = engine-fits number readings h
-  entry-fits (Amend standards) h = not-false _ (no (Amend standards) h 5)
-  entry-fits BeginPeriod h = false-not (no BeginPeriod h 15)
-  entry-fits Declare h = refl
+  entry-fits (EnterChange (Amend standards)) h = not-false _ (no (EnterChange (Amend standards)) h 5)
+  entry-fits (EnterChange BeginPeriod) h = false-not (no (EnterChange BeginPeriod) h 15)
+  entry-fits (EnterChange Declare) h = refl
 
   -- the event of an accepted entry is admissible
-  pub admitted : (entry : Entry) → refusal 544 (Enter entry) (Year s es) ≡ 0 → admissible (replay s es) (eventOf s entry) ≡ true
+  pub admitted : (entry : Entry) → refusal 544 (Enter entry) (Year s es) ≡ 0 → admissible (replay s es) (eventOf (replay s es) entry) ≡ true
   unfolding refusals
-  admitted entry h = admissible-by (replay s es) (eventOf s entry) (no entry h 8) (no entry h 9) (entry-fits entry h)
+  admitted entry h = admissible-by (replay s es) (eventOf (replay s es) entry) (no entry h 8) (no entry h 9) (entry-fits entry h)
 
 -- so a model stays one that could have been entered
 abbrev pub ValidModel : Model → Type 0
@@ -82,9 +81,8 @@ setup-valid s model h =
 accepted-valid : (call : Call) (model : Model) → refusal 544 call model ≡ 0 → ValidModel model → ValidModel (accepted call model)
 accepted-valid (SetUp s) model h v = setup-valid s model h
 accepted-valid (Enter entry) NoSetup h v = v
-accepted-valid (Enter entry) (Year s es) h v = valid-next s (eventOf s entry) es v (admitted s es entry h)
-accepted-valid ReadStatus model h v = v
-accepted-valid (WriteMarks size) model h v = v
+accepted-valid (Enter entry) (Year s es) h v = valid-next s (eventOf (replay s es) entry) es v (admitted s es entry h)
+accepted-valid (Ask query) model h v = v
 
 pub step-valid : (call : Call) (model : Model) → ValidModel model → ValidModel (stepModel call model)
 unfolding stepModel

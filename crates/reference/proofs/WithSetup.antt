@@ -1,12 +1,12 @@
 -- A list of calls leaves the reference model with a setup exactly if there is an accepted setup in it.
 -- Assumes nothing.
 use mathlib.Core.Path.{_≡_, refl, ap, _∙_}
-use mathlib.Core.Bool.{Bool, true, false, cond, _&&_, false≢true}
+use mathlib.Core.Bool.{true, false, _&&_, false≢true}
 use mathlib.Core.List.{List, [], _∷_}
 use lib.Dec.{eqb}
-use Rattle.buffers.proofs.Tests.{by-test, or-false, either-true}
+use Rattle.buffers.proofs.Tests.{by-test, cond-same, or-false, either-true}
 use Rattle.year.specs.Model.{Model, NoSetup, Year, noSetup}
-use Rattle.reference.specs.Call.{Call, SetUp, Enter, ReadStatus, WriteMarks, isSetup}
+use Rattle.reference.specs.Call.{Call, SetUp, Enter, Ask, isSetup}
 use Rattle.reference.specs.Refusals.{refusal}
 use Rattle.reference.specs.Model.{accepted, stepModel, modelOf, setupAccepted}
 
@@ -15,8 +15,7 @@ pub accepted-has : (call : Call) (model : Model) → noSetup model ≡ false →
 accepted-has (SetUp s) model h = refl
 accepted-has (Enter entry) NoSetup h = h
 accepted-has (Enter entry) (Year s es) h = refl
-accepted-has ReadStatus model h = h
-accepted-has (WriteMarks size) model h = h
+accepted-has (Ask query) model h = h
 
 pub step-has : (call : Call) (model : Model) → noSetup model ≡ false → noSetup (stepModel call model) ≡ false
 unfolding stepModel
@@ -27,8 +26,7 @@ setup-has : (call : Call) (model : Model) → (isSetup call && eqb (refusal 544 
 unfolding stepModel
 setup-has (SetUp s) model h = rw h
 setup-has (Enter entry) model h = absurd (false≢true h)
-setup-has ReadStatus model h = absurd (false≢true h)
-setup-has (WriteMarks size) model h = absurd (false≢true h)
+setup-has (Ask query) model h = absurd (false≢true h)
 
 pub model-has-setup : (calls : List Call) → setupAccepted calls ≡ true → noSetup (modelOf calls) ≡ false
 model-has-setup [] h = absurd (false≢true h)
@@ -37,16 +35,11 @@ model-has-setup (call ∷ calls) h =
     (λ before. step-has call (modelOf calls) (model-has-setup calls before)) h
 
 -- and without one no call gives a setup
-either-way : (b : Bool) → cond b NoSetup NoSetup ≡ NoSetup
-either-way true = refl
-either-way false = refl
-
 step-none : (call : Call) → (isSetup call && eqb (refusal 544 call NoSetup) 0) ≡ false → stepModel call NoSetup ≡ NoSetup
 unfolding stepModel
 step-none (SetUp s) h = rw h
-step-none (Enter entry) h = either-way (eqb (refusal 544 (Enter entry) NoSetup) 0)
-step-none ReadStatus h = either-way (eqb (refusal 544 ReadStatus NoSetup) 0)
-step-none (WriteMarks size) h = either-way (eqb (refusal 544 (WriteMarks size) NoSetup) 0)
+step-none (Enter entry) h = cond-same (eqb (refusal 544 (Enter entry) NoSetup) 0) NoSetup
+step-none (Ask query) h = cond-same (eqb (refusal 544 (Ask query) NoSetup) 0) NoSetup
 
 pub model-has-none : (calls : List Call) → setupAccepted calls ≡ false → modelOf calls ≡ NoSetup
 model-has-none [] h = refl

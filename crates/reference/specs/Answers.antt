@@ -9,15 +9,15 @@ use Rattle.buffers.specs.Bytes.{put}
 use Rattle.buffers.specs.Rows.{Row}
 use Rattle.cumsum.specs.Marks.{markByte}
 use Rattle.year.specs.declared.Status.{Status}
-use Rattle.year.specs.Replay.{replay}
+use Rattle.year.specs.Replay.{Progress, replay}
 use Rattle.year.specs.Status.{blank, status, printed}
 use Rattle.year.specs.Model.{Model, NoSetup, Year}
 use Rattle.journal.specs.Encode.{encode, append}
 use Rattle.journal.specs.Read.{readJournal}
 use Rattle.reference.specs.declared.Answer.{Answer}
 use Rattle.reference.specs.declared.Answer.the-variants.{Accepted, Refused}
-use Rattle.reference.specs.declared.MarksAnswer.{MarksAnswer}
-use Rattle.reference.specs.Call.{Entry, Call, SetUp, Enter, ReadStatus, WriteMarks, eventOf}
+use Rattle.reference.specs.declared.OutputAnswer.{OutputAnswer}
+use Rattle.reference.specs.Call.{Entry, Form, Marks, Write, Call, SetUp, Enter, Ask, eventOf}
 use Rattle.reference.specs.Refusals.{refusals, refusal}
 
 -- the table for a call on a lent journal of any length and content, and its refusal, 0 for none
@@ -35,14 +35,13 @@ module _ {A : Type 0} where
 -- "Each other entry writes its slot and byte 24"
 abbrev pub withEntry : Entry → Model → List ℕ → List ℕ
 withEntry entry NoSetup journal = journal
-withEntry entry (Year s es) journal = append journal (eventOf s entry)
+withEntry entry (Year s es) journal = append journal (eventOf (replay s es) entry)
 
--- "Setup takes a buffer of any content and writes all of it." Status and marks write nothing in it
+-- "Setup takes a buffer of any content and writes all of it." A query writes nothing in it
 abbrev pub written : Call → List ℕ → List ℕ
 written (SetUp s) journal = encode s []
 written (Enter entry) journal = withEntry entry (readJournal journal) journal
-written ReadStatus journal = journal
-written (WriteMarks size) journal = journal
+written (Ask query) journal = journal
 
 -- the journal after a call: what it writes, or where it is refused what it was
 unfoldable pub journalAfter : Call → List ℕ → List ℕ
@@ -58,37 +57,41 @@ statusOf NoSetup = noStatus
 statusOf (Year s es) = status 1024 (replay s es)
 
 -- "An accepted setup or entry returns the status of the book that it leaves", and status that of the book that it reads. "A refusal returns its number".
--- (A marks call gives back a part and its refusal, and no answer.)
+-- (A call that writes an output gives back a part and its refusal, and no answer.)
 unfoldable pub answer : Call → List ℕ → Answer
 answer call journal = ifAccepted call journal (Accepted (statusOf (readJournal (journalAfter call journal)))) (Refused (refusalOn call journal))
 
 -- document 01's refusal number and figures for each case of an answer
-pub record Told : Type 0 where
+pub record Outcome : Type 0 where
   pub refusal : ℕ
   pub status : Status
 
-abbrev pub answerOf : Answer → Told
-answerOf (Accepted s) = record { refusal = 0; status = s }
-answerOf (Refused number) = record { refusal = number; status = noStatus }
+abbrev pub outcomeOf : Answer → Outcome
+outcomeOf (Accepted s) = record { refusal = 0; status = s }
+outcomeOf (Refused number) = record { refusal = number; status = noStatus }
 
--- what is told of a call: "A refusal returns its number, every other figure of the answer zero, marks '-', N absent"
-unfoldable pub told : Call → List ℕ → Told
-told call journal =
+-- the same of a call: "A refusal returns its number, every other figure of the answer zero, marks '-', N absent"
+unfoldable pub outcome : Call → List ℕ → Outcome
+outcome call journal =
     record { refusal = refusalOn call journal; status = ifAccepted call journal (statusOf (readJournal (journalAfter call journal))) noStatus }
 
--- the bytes of the marks, "two marks per engine, HC+NOx then CO"
-abbrev pub markBytes : Model → List ℕ
-markBytes NoSetup = []
-markBytes (Year s es) = map markByte (printed 1024 (replay s es))
+-- the bytes of each form of output. Marks: "two marks per engine, HC+NOx then CO", at the calculator's resolution of 1,024
+abbrev pub formBytes : Form → Progress → List ℕ
+formBytes Marks p = map markByte (printed 1024 p)
+
+abbrev pub outBytes : Form → Model → List ℕ
+outBytes form NoSetup = []
+outBytes form (Year s es) = formBytes form (replay s es)
 
 -- "The strip call writes [them] at the front of a lent buffer": the whole buffer after the call
-unfoldable pub outAfter : List ℕ → List ℕ → List ℕ
-outAfter journal out = ifAccepted (WriteMarks (length out)) journal (put out 0 (markBytes (readJournal journal))) out
+unfoldable pub outAfter : Form → List ℕ → List ℕ → List ℕ
+outAfter form journal out = ifAccepted (Ask (Write form (length out))) journal (put out 0 (outBytes form (readJournal journal))) out
 
 -- "and hands back just that written part of the buffer", or "an empty part" where it is refused
-unfoldable pub marksPart : List ℕ → List ℕ → List ℕ
-marksPart journal out = ifAccepted (WriteMarks (length out)) journal (markBytes (readJournal journal)) []
+unfoldable pub outPart : Form → List ℕ → List ℕ → List ℕ
+outPart form journal out = ifAccepted (Ask (Write form (length out))) journal (outBytes form (readJournal journal)) []
 
 -- what it tells beside them: its refusal, and how many bytes it wrote, none where it is refused
-abbrev pub marksAnswer : List ℕ → List ℕ → MarksAnswer
-marksAnswer journal out = record { refusal = refusalOn (WriteMarks (length out)) journal; length = length (marksPart journal out) }
+abbrev pub outputAnswer : Form → List ℕ → List ℕ → OutputAnswer
+outputAnswer form journal out =
+    record { refusal = refusalOn (Ask (Write form (length out))) journal; length = length (outPart form journal out) }

@@ -1,5 +1,4 @@
 -- The calls of document 01 with their arguments, of any value; and the event that an entry adds to a year.
--- Assumes nothing.
 use mathlib.Core.Bool.{Bool, true, false}
 use mathlib.Core.List.{List}
 use Prim.Native.Nat.{ℕ}
@@ -10,6 +9,9 @@ use Rattle.year.specs.declared.Setup.{Setup}
 use Rattle.year.specs.declared.Event.{Event}
 use Rattle.year.specs.declared.Event.the-variants.{Engine, Amendment, NextPeriod, Declaration}
 use Rattle.year.specs.Setup.{Pollutant, Hcnox, Co, factorOf}
+use Rattle.year.specs.Replay.{Progress}
+use Rattle.reference.specs.declared.Change.{Change}
+use Rattle.reference.specs.declared.Change.the-variants.{Amend, BeginPeriod, Declare}
 
 -- an engine's readings for each pollutant
 pub record Readings : Type 0 where
@@ -20,23 +22,30 @@ abbrev pub readingsOf : Pollutant → Readings → List ℕ
 readingsOf Hcnox readings = readings .hcnox
 readingsOf Co readings = readings .co
 
--- the four entries: an engine with its number and readings, an amendment with the new standards, the next period, a declaration
+-- the four entries: an engine with its number and readings; or a change, which comes without readings: an amendment with the new standards, the next period,
+-- a declaration
 pub data Entry : Type 0 where
   EnterEngine : ℕ → Readings → Entry
-  Amend : Pair → Entry
-  BeginPeriod : Entry
-  Declare : Entry
+  EnterChange : Change → Entry
 
 -- an engine's entry by its number and the readings of HC+NOx and of CO
 abbrev pub engineEntry : ℕ → List ℕ → List ℕ → Entry
 engineEntry number hcnox co = EnterEngine number (record { hcnox = hcnox; co = co })
 
--- the seven calls: setup, an entry, status, and marks ("the strip call") with the length of the lent output
+-- what is written into a lent output: the marks ("the strip")
+pub data Form : Type 0 where
+  Marks : Form
+
+-- the calls that only read the journal: status, and an output of some form, with the length of the buffer lent for it
+pub data Query : Type 0 where
+  ReadStatus : Query
+  Write : Form → ℕ → Query
+
+-- the seven calls: setup, an entry, a query
 pub data Call : Type 0 where
   SetUp : Setup → Call
   Enter : Entry → Call
-  ReadStatus : Call
-  WriteMarks : ℕ → Call
+  Ask : Query → Call
 
 -- the results worked from an engine's readings
 abbrev pub resultsOf : Setup → Readings → Pair
@@ -44,58 +53,61 @@ resultsOf s readings =
     record { hcnox = resultOf (factorOf Hcnox s) (readings .hcnox); co = resultOf (factorOf Co s) (readings .co) }
 
 -- "an engine with its number, reading count and the results worked from its readings, an amendment with its standards, a next period, a declaration"
-abbrev pub eventOf : Setup → Entry → Event
-eventOf s (EnterEngine number readings) = Engine number (length (readings .hcnox)) (resultsOf s readings)
-eventOf s (Amend standards) = Amendment standards
-eventOf s BeginPeriod = NextPeriod
-eventOf s Declare = Declaration
+abbrev pub changeEvent : Change → Event
+changeEvent (Amend standards) = Amendment standards
+changeEvent BeginPeriod = NextPeriod
+changeEvent Declare = Declaration
+
+abbrev pub eventOf : Progress → Entry → Event
+eventOf p (EnterEngine number readings) = Engine number (length (readings .hcnox)) (resultsOf (p .setup) readings)
+eventOf p (EnterChange change) = changeEvent change
 
 abbrev pub isSetup : Call → Bool
 isSetup (SetUp s) = true
 isSetup (Enter entry) = false
-isSetup ReadStatus = false
-isSetup (WriteMarks size) = false
+isSetup (Ask query) = false
 
 -- "the call would add an event": the entries do
 abbrev pub addsEvent : Call → Bool
 addsEvent (SetUp s) = false
 addsEvent (Enter entry) = true
-addsEvent ReadStatus = false
-addsEvent (WriteMarks size) = false
+addsEvent (Ask query) = false
 
 -- A test of a call's arguments, by the kind of call; of any other call it does not hold.
 abbrev pub ofSetup : (Setup → Bool) → Call → Bool
 ofSetup test (SetUp s) = test s
 ofSetup test (Enter entry) = false
-ofSetup test ReadStatus = false
-ofSetup test (WriteMarks size) = false
+ofSetup test (Ask query) = false
 
 abbrev pub ofEntry : (Entry → Bool) → Call → Bool
 ofEntry test (SetUp s) = false
 ofEntry test (Enter entry) = test entry
-ofEntry test ReadStatus = false
-ofEntry test (WriteMarks size) = false
+ofEntry test (Ask query) = false
 
-abbrev pub ofMarks : (ℕ → Bool) → Call → Bool
-ofMarks test (SetUp s) = false
-ofMarks test (Enter entry) = false
-ofMarks test ReadStatus = false
-ofMarks test (WriteMarks size) = test size
+abbrev pub ofQuery : (Query → Bool) → Call → Bool
+ofQuery test (SetUp s) = false
+ofQuery test (Enter entry) = false
+ofQuery test (Ask query) = test query
 
+-- and by the kind of entry or of query
 abbrev pub ofEngine : (ℕ → Readings → Bool) → Entry → Bool
 ofEngine test (EnterEngine number readings) = test number readings
-ofEngine test (Amend standards) = false
-ofEngine test BeginPeriod = false
-ofEngine test Declare = false
+ofEngine test (EnterChange change) = false
 
-abbrev pub ofAmendment : (Pair → Bool) → Entry → Bool
-ofAmendment test (EnterEngine number readings) = false
+abbrev pub ofChange : (Change → Bool) → Entry → Bool
+ofChange test (EnterEngine number readings) = false
+ofChange test (EnterChange change) = test change
+
+abbrev pub ofAmendment : (Pair → Bool) → Change → Bool
 ofAmendment test (Amend standards) = test standards
 ofAmendment test BeginPeriod = false
 ofAmendment test Declare = false
 
-abbrev pub ofPeriod : Bool → Entry → Bool
-ofPeriod test (EnterEngine number readings) = false
+abbrev pub ofPeriod : Bool → Change → Bool
 ofPeriod test (Amend standards) = false
 ofPeriod test BeginPeriod = test
 ofPeriod test Declare = false
+
+abbrev pub ofMarks : (ℕ → Bool) → Query → Bool
+ofMarks test ReadStatus = false
+ofMarks test (Write Marks size) = test size

@@ -19,9 +19,11 @@ use Rattle.year.specs.Model.{Model, NoSetup, Year}
 use Rattle.year.specs.Cases.{pair, setupOf, engine, three}
 use Rattle.journal.specs.Encode.{encode}
 use Rattle.reference.specs.declared.Answer.the-variants.{Accepted, Refused}
-use Rattle.reference.specs.Call.{engineEntry, Amend, BeginPeriod, Declare, Call, SetUp, Enter, ReadStatus, WriteMarks}
+use Rattle.reference.specs.declared.Change.{Change}
+use Rattle.reference.specs.declared.Change.the-variants.{Amend, BeginPeriod, Declare}
+use Rattle.reference.specs.Call.{engineEntry, EnterChange, Marks, ReadStatus, Write, Call, SetUp, Enter, Ask}
 use Rattle.reference.specs.Refusals.{refusal}
-use Rattle.reference.specs.Answers.{noStatus, answer, journalAfter, outAfter, marksPart}
+use Rattle.reference.specs.Answers.{noStatus, answer, journalAfter, outAfter, outPart}
 use Rattle.reference.specs.Model.{modelOf, journalOf, setupAccepted}
 
 -- a setup of this volume, these standards and this HC+NOx factor
@@ -33,9 +35,15 @@ setupWith volume standards factor =
 abbrev pub yearOf : List Event → Model
 yearOf = Year (setupOf 5000 800)
 
--- an engine with these readings
+-- an engine with these readings, a change, and marks into an output of this size
 abbrev pub entering : ℕ → List ℕ → List ℕ → Call
 entering number hcnox co = Enter (engineEntry number hcnox co)
+
+abbrev pub changing : Change → Call
+changing change = Enter (EnterChange change)
+
+abbrev pub marksInto : ℕ → Call
+marksInto size = Ask (Write Marks size)
 
 -- the call of the printed run's first and second lines
 abbrev pub newYear : Call
@@ -47,7 +55,7 @@ engineOne = entering 1 (998000 ∷ []) (5000000 ∷ [])
 pub record Cases : Type 0 where
   -- 3, before all others
   pub journalSize : refusal 543 (SetUp (setupWith 0 (pair 800 6100) noFactor)) NoSetup ≡ 3
-  pub journalLonger : refusal 545 ReadStatus NoSetup ≡ 3
+  pub journalLonger : refusal 545 (Ask ReadStatus) NoSetup ≡ 3
   -- 4 to 6, of a setup
   pub volume : refusal 544 (SetUp (setupWith 0 (pair 5 6100) noFactor)) NoSetup ≡ 4
   pub standard : refusal 544 (SetUp (setupWith 5000 (pair 800 6105) (record { kind = 2; value = 0 }))) NoSetup ≡ 5
@@ -56,18 +64,18 @@ pub record Cases : Type 0 where
   -- a setup asks nothing of the journal
   pub setupOverDeclared : refusal 544 newYear (yearOf (Declaration ∷ [])) ≡ 0
   -- 5 of an amendment is checked before 7
-  pub amendmentStandard : refusal 544 (Enter (Amend (pair 15 10))) NoSetup ≡ 5
-  pub amendmentNoSetup : refusal 544 (Enter (Amend (pair 20 10))) NoSetup ≡ 7
-  pub statusNoSetup : refusal 544 ReadStatus NoSetup ≡ 7
-  pub marksNoSetup : refusal 544 (WriteMarks 0) NoSetup ≡ 7
+  pub amendmentStandard : refusal 544 (changing (Amend (pair 15 10))) NoSetup ≡ 5
+  pub amendmentNoSetup : refusal 544 (changing (Amend (pair 20 10))) NoSetup ≡ 7
+  pub statusNoSetup : refusal 544 (Ask ReadStatus) NoSetup ≡ 7
+  pub marksNoSetup : refusal 544 (marksInto 0) NoSetup ≡ 7
   -- 7, before 10
   pub engineNoSetup : refusal 544 (entering 0 [] []) NoSetup ≡ 7
   -- 8, after a declaration and after a failure; status still reads
   pub afterDeclaration : refusal 544 (entering 0 [] []) (yearOf (Declaration ∷ [])) ≡ 8
-  pub afterFailure : refusal 544 (Enter Declare) (Year (setupOf 5000 100) three) ≡ 8
-  pub statusDeclared : refusal 544 ReadStatus (yearOf (Declaration ∷ [])) ≡ 0
+  pub afterFailure : refusal 544 (changing Declare) (Year (setupOf 5000 100) three) ≡ 8
+  pub statusDeclared : refusal 544 (Ask ReadStatus) (yearOf (Declaration ∷ [])) ≡ 0
   -- 8, before 9: the sixty-fourth event is a declaration
-  pub declaredAndStored : refusal 544 (Enter Declare) (yearOf (Declaration ∷ replicate 63 (Amendment (pair 10 10)))) ≡ 8
+  pub declaredAndStored : refusal 544 (changing Declare) (yearOf (Declaration ∷ replicate 63 (Amendment (pair 10 10)))) ≡ 8
   -- 9, with 64 amendments
   pub eventsStored : refusal 544 (entering 0 [] []) (yearOf (replicate 64 (Amendment (pair 10 10)))) ≡ 9
   -- 10, a number out of range or in the book, before 11
@@ -85,12 +93,12 @@ pub record Cases : Type 0 where
   -- 13: 20,000 and 60 more
   pub result : refusal 544 (entering 1 (20000000 ∷ []) (1 ∷ [])) (Year (setupWith 5000 (pair 800 6100) (record { kind = 0; value = 60000 })) []) ≡ 13
   -- 15, in a short period, and in the last
-  pub periodShort : refusal 544 (Enter BeginPeriod) (yearOf (engine 1 998 ∷ [])) ≡ 15
-  pub periodLast : refusal 544 (Enter BeginPeriod) (Year (setupOf 1500 1000) (engine 2 1000 ∷ engine 1 1000 ∷ [])) ≡ 15
-  pub periodNext : refusal 544 (Enter BeginPeriod) (Year (setupOf 5000 1000) (engine 2 1000 ∷ engine 1 1000 ∷ [])) ≡ 0
+  pub periodShort : refusal 544 (changing BeginPeriod) (yearOf (engine 1 998 ∷ [])) ≡ 15
+  pub periodLast : refusal 544 (changing BeginPeriod) (Year (setupOf 1500 1000) (engine 2 1000 ∷ engine 1 1000 ∷ [])) ≡ 15
+  pub periodNext : refusal 544 (changing BeginPeriod) (Year (setupOf 5000 1000) (engine 2 1000 ∷ engine 1 1000 ∷ [])) ≡ 0
   -- 16
-  pub marksSize : refusal 544 (WriteMarks 1) (yearOf (engine 1 998 ∷ [])) ≡ 16
-  pub marksFit : refusal 544 (WriteMarks 2) (yearOf (engine 1 998 ∷ [])) ≡ 0
+  pub marksSize : refusal 544 (marksInto 1) (yearOf (engine 1 998 ∷ [])) ≡ 16
+  pub marksFit : refusal 544 (marksInto 2) (yearOf (engine 1 998 ∷ [])) ≡ 0
   -- on bytes: a refused call leaves them, and gives zeros; a setup writes all, an entry adds its event
   pub refusedLeaves : journalAfter engineOne (zeros 544) ≡ zeros 544
   pub declaredLeaves : journalAfter engineOne (encode (setupOf 5000 800) (Declaration ∷ [])) ≡ encode (setupOf 5000 800) (Declaration ∷ [])
@@ -101,21 +109,21 @@ pub record Cases : Type 0 where
   -- the status that an entry gives is that of the journal that it leaves: one engine, short, S 998 and 5,000
   pub entryAnswer : answer engineOne (encode (setupOf 5000 800) []) ≡ Accepted (record { n = 1; verdict = 0; hcnox = blank 998; co = blank 5000 })
   -- marks at the front of the output, the rest of it as it was; refused, all of it as it was
-  pub marksWritten : outAfter (encode (setupOf 5000 800) (engine 1 998 ∷ [])) (1 ∷ 2 ∷ 3 ∷ []) ≡ 45 ∷ 45 ∷ 3 ∷ []
-  pub marksHandedBack : marksPart (encode (setupOf 5000 800) (engine 1 998 ∷ [])) (1 ∷ 2 ∷ 3 ∷ []) ≡ 45 ∷ 45 ∷ []
-  pub marksRefused : outAfter (encode (setupOf 5000 800) (engine 1 998 ∷ [])) (1 ∷ []) ≡ 1 ∷ []
+  pub marksWritten : outAfter Marks (encode (setupOf 5000 800) (engine 1 998 ∷ [])) (1 ∷ 2 ∷ 3 ∷ []) ≡ 45 ∷ 45 ∷ 3 ∷ []
+  pub marksHandedBack : outPart Marks (encode (setupOf 5000 800) (engine 1 998 ∷ [])) (1 ∷ 2 ∷ 3 ∷ []) ≡ 45 ∷ 45 ∷ []
+  pub marksRefused : outAfter Marks (encode (setupOf 5000 800) (engine 1 998 ∷ [])) (1 ∷ []) ≡ 1 ∷ []
   -- the model of a list: what comes before an accepted setup is refused, a second setup starts anew
-  pub modelOfNone : modelOf (Enter Declare ∷ engineOne ∷ []) ≡ NoSetup
+  pub modelOfNone : modelOf (changing Declare ∷ engineOne ∷ []) ≡ NoSetup
   pub modelOfOne : modelOf (engineOne ∷ engineOne ∷ newYear ∷ engineOne ∷ []) ≡ yearOf (engine 1 998 ∷ [])
-  pub modelOfTwo : modelOf (Enter (Amend (pair 700 6100)) ∷ engineOne ∷ newYear ∷ []) ≡ yearOf (Amendment (pair 700 6100) ∷ engine 1 998 ∷ [])
+  pub modelOfTwo : modelOf (changing (Amend (pair 700 6100)) ∷ engineOne ∷ newYear ∷ []) ≡ yearOf (Amendment (pair 700 6100) ∷ engine 1 998 ∷ [])
   -- each entry adds its own event: an engine with its number, its reading count and results worked from all readings; a declaration; a next period
   pub modelEngine : modelOf (entering 7 (998000 ∷ 1000000 ∷ []) (5000000 ∷ 5002000 ∷ []) ∷ newYear ∷ []) ≡ yearOf (Engine 7 2 (pair 999 5001) ∷ [])
-  pub modelDeclared : modelOf (Enter Declare ∷ newYear ∷ []) ≡ yearOf (Declaration ∷ [])
-  pub modelPeriod : modelOf (Enter BeginPeriod ∷ entering 2 (1000000 ∷ []) (5000000 ∷ []) ∷ entering 1 (1000000 ∷ []) (5000000 ∷ []) ∷ SetUp (setupOf 5000 1000) ∷ [])
+  pub modelDeclared : modelOf (changing Declare ∷ newYear ∷ []) ≡ yearOf (Declaration ∷ [])
+  pub modelPeriod : modelOf (changing BeginPeriod ∷ entering 2 (1000000 ∷ []) (5000000 ∷ []) ∷ entering 1 (1000000 ∷ []) (5000000 ∷ []) ∷ SetUp (setupOf 5000 1000) ∷ [])
       ≡ Year (setupOf 5000 1000) (NextPeriod ∷ engine 2 1000 ∷ engine 1 1000 ∷ [])
-  pub modelAnew : modelOf (newYear ∷ Enter Declare ∷ engineOne ∷ newYear ∷ []) ≡ yearOf []
+  pub modelAnew : modelOf (newYear ∷ changing Declare ∷ engineOne ∷ newYear ∷ []) ≡ yearOf []
   -- an accepted setup in a list, and only a refused one
-  pub acceptedInList : setupAccepted (Enter Declare ∷ newYear ∷ []) ≡ true
+  pub acceptedInList : setupAccepted (changing Declare ∷ newYear ∷ []) ≡ true
   pub refusedInList : setupAccepted (SetUp (setupWith 0 (pair 800 6100) noFactor) ∷ []) ≡ false
   -- the journal after the same lists
   pub journalOfOne : journalOf (engineOne ∷ engineOne ∷ newYear ∷ engineOne ∷ []) ≡ encode (setupOf 5000 800) (engine 1 998 ∷ [])

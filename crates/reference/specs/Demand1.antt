@@ -10,37 +10,39 @@ use Rattle.buffers.specs.Bytes.{Outside}
 use Rattle.buffers.specs.Rows.{Row, FirstApplies, NoneApplies}
 use Rattle.year.specs.declared.Setup.{Setup}
 use Rattle.year.specs.declared.Event.{Event}
+use Rattle.year.specs.Replay.{replay}
 use Rattle.year.specs.Model.{Year}
 use Rattle.journal.specs.Encode.{encode, slotPlace, append}
 use Rattle.journal.specs.Read.{readJournal}
-use Rattle.reference.specs.Call.{Entry, Call, SetUp, Enter, ReadStatus, WriteMarks, eventOf}
-use Rattle.reference.specs.Answers.{refusalsOn, refusalOn, journalAfter, noStatus, statusOf, answer, answerOf, outAfter, marksPart, marksAnswer}
+use Rattle.reference.specs.Call.{Entry, Form, Marks, Query, Write, Call, SetUp, Enter, Ask, eventOf}
+use Rattle.reference.specs.Answers.{refusalsOn, refusalOn, journalAfter, noStatus, statusOf, answer, outcomeOf, outBytes, outAfter, outPart, outputAnswer}
 
 pub record Demand1 : Type 0 where
   -- "The book and the strip .. are, after a refused call, byte for byte what they were"
   pub refusedJournal : (call : Call) (journal : List ℕ) → refusalOn call journal ≢ 0 → journalAfter call journal ≡ journal
-  pub refusedOut : (journal out : List ℕ) → refusalOn (WriteMarks (length out)) journal ≢ 0 → outAfter journal out ≡ out
+  pub refusedOut : (form : Form) (journal out : List ℕ) → refusalOn (Ask (Write form (length out))) journal ≢ 0 → outAfter form journal out ≡ out
   -- "after an accepted call only the bytes that document 01 names for it have changed". A setup's are all 544
   pub setupWritten : (s : Setup) (journal : List ℕ) → refusalOn (SetUp s) journal ≡ 0 → journalAfter (SetUp s) journal ≡ encode s []
   pub setupSize : (s : Setup) (journal : List ℕ) → refusalOn (SetUp s) journal ≡ 0 → length (encode s []) ≡ 544
   -- an entry's are its slot and byte 24: at every other index the byte is what it was, and there are as many
   pub entryWritten : (entry : Entry) (journal : List ℕ) (s : Setup) (es : List Event) → readJournal journal ≡ Year s es
-      → refusalOn (Enter entry) journal ≡ 0 → journalAfter (Enter entry) journal ≡ append journal (eventOf s entry)
+      → refusalOn (Enter entry) journal ≡ 0 → journalAfter (Enter entry) journal ≡ append journal (eventOf (replay s es) entry)
   pub entryKept : (entry : Entry) (journal : List ℕ) (i : ℕ) → i ≢ 24 → Outside (slotPlace (getD journal 24 0)) 8 i
       → getD (journalAfter (Enter entry) journal) i 0 ≡ getD journal i 0
   pub entrySize : (entry : Entry) (journal : List ℕ) → length (journalAfter (Enter entry) journal) ≡ length journal
   -- status and marks have none in the journal
-  pub statusKept : (journal : List ℕ) → journalAfter ReadStatus journal ≡ journal
-  pub marksKept : (size : ℕ) (journal : List ℕ) → journalAfter (WriteMarks size) journal ≡ journal
-  -- marks have the first 2n of the output: at every other index the byte is what it was, and there are as many
-  pub outKept : (journal out : List ℕ) (i : ℕ) → 2 * statusOf (readJournal journal) .n ≤ i → getD (outAfter journal out) i 0 ≡ getD out i 0
-  pub outSize : (journal out : List ℕ) → length (outAfter journal out) ≡ length out
+  pub queryKept : (query : Query) (journal : List ℕ) → journalAfter (Ask query) journal ≡ journal
+  -- an output's are those of its form, at its front; marks have the first 2n. At every other index the byte is what it was, and there are as many
+  pub outKept : (form : Form) (journal out : List ℕ) (i : ℕ) → length (outBytes form (readJournal journal)) ≤ i
+      → getD (outAfter form journal out) i 0 ≡ getD out i 0
+  pub outSize : (form : Form) (journal out : List ℕ) → length (outAfter form journal out) ≡ length out
+  pub marksCount : (journal : List ℕ) → length (outBytes Marks (readJournal journal)) ≡ 2 * statusOf (readJournal journal) .n
   -- "A call is refused only if one of 01's refusals applies, and the first that applies, in 01's order, is the one returned."
   pub refusedBy : (call : Call) (journal : List ℕ) (r : ℕ) → 0 < r → (refusalOn call journal ≡ r) ↔ FirstApplies (refusalsOn call journal) r
   pub accepted : (call : Call) (journal : List ℕ) → (refusalOn call journal ≡ 0) ↔ NoneApplies (refusalsOn call journal)
   pub order : (call : Call) (journal : List ℕ) → map (λ (row : Row). row .1) (refusalsOn call journal) ≡ 3 ∷ 4 ∷ 5 ∷ 6 ∷ 7 ∷ 8 ∷ 9 ∷ 10 ∷ 11 ∷ 12 ∷ 13 ∷ 14 ∷ 15 ∷ 16 ∷ []
-  pub returned : (call : Call) (journal : List ℕ) → answerOf (answer call journal) .refusal ≡ refusalOn call journal
-  pub marksReturned : (journal out : List ℕ) → marksAnswer journal out .refusal ≡ refusalOn (WriteMarks (length out)) journal
+  pub returned : (call : Call) (journal : List ℕ) → outcomeOf (answer call journal) .refusal ≡ refusalOn call journal
+  pub outReturned : (form : Form) (journal out : List ℕ) → outputAnswer form journal out .refusal ≡ refusalOn (Ask (Write form (length out))) journal
   -- "every other figure of the answer zero, marks '-', N absent, and an empty part" (document 01, "Refused calls, in checking order")
-  pub refusedStatus : (call : Call) (journal : List ℕ) → refusalOn call journal ≢ 0 → answerOf (answer call journal) .status ≡ noStatus
-  pub refusedPart : (journal out : List ℕ) → refusalOn (WriteMarks (length out)) journal ≢ 0 → marksPart journal out ≡ []
+  pub refusedStatus : (call : Call) (journal : List ℕ) → refusalOn call journal ≢ 0 → outcomeOf (answer call journal) .status ≡ noStatus
+  pub refusedPart : (form : Form) (journal out : List ℕ) → refusalOn (Ask (Write form (length out))) journal ≢ 0 → outPart form journal out ≡ []

@@ -23,9 +23,9 @@ use Rattle.year.specs.Admissible.{admissible}
 use Rattle.year.specs.Model.{Year, noSetup}
 use Rattle.journal.specs.Read.{readJournal}
 use Rattle.journal.specs.OneJournal.{OneJournal}
-use Rattle.reference.specs.Call.{Entry, Call, SetUp, Enter, ReadStatus, WriteMarks, eventOf, ofEngine}
+use Rattle.reference.specs.Call.{Entry, Form, Marks, ReadStatus, Write, Call, SetUp, Enter, Ask, eventOf, ofEngine}
 use Rattle.reference.specs.Refusals.{countsFit, readingsFit}
-use Rattle.reference.specs.Answers.{refusalOn, journalAfter, answer, answerOf, outAfter, marksPart}
+use Rattle.reference.specs.Answers.{refusalOn, journalAfter, answer, outcomeOf, outAfter, outPart}
 
 abbrev pub figuresOf : Pollutant → Status → Figures
 figuresOf Hcnox status = status .hcnox
@@ -53,20 +53,20 @@ pub record Demand2 : Type 0 where
   -- what is stored: a setup as it is given, and an entry's event, an engine's with the results worked from its readings (`eventOf`)
   pub setUp : (s : Setup) (journal : List ℕ) → refusalOn (SetUp s) journal ≡ 0 → readJournal (journalAfter (SetUp s) journal) ≡ Year s []
   pub entered : (entry : Entry) (journal : List ℕ) (s : Setup) (es : List Event) → readJournal journal ≡ Year s es → refusalOn (Enter entry) journal ≡ 0
-      → readJournal (journalAfter (Enter entry) journal) ≡ Year s (eventOf s entry ∷ es)
+      → readJournal (journalAfter (Enter entry) journal) ≡ Year s (eventOf (replay s es) entry ∷ es)
   -- and the other way: an entry whose event the year admits, its readings 1 to 3 for each pollutant and in range, is accepted. So the events of an accepted
   -- journal "could have been entered in that order" (document 01, "The book")
   pub couldEnter : (entry : Entry) (journal : List ℕ) (s : Setup) (es : List Event) → readJournal journal ≡ Year s es
-      → admissible (replay s es) (eventOf s entry) ≡ true → unreadable entry ≡ false → refusalOn (Enter entry) journal ≡ 0
+      → admissible (replay s es) (eventOf (replay s es) entry) ≡ true → unreadable entry ≡ false → refusalOn (Enter entry) journal ≡ 0
   -- what is answered: each figure of the year that the journal then holds (an accepted call leaves none without), which is what status answers on that journal
   pub held : (call : Call) (journal : List ℕ) → refusalOn call journal ≡ 0 → noSetup (readJournal (journalAfter call journal)) ≡ false
   pub shown : (call : Call) (journal : List ℕ) (s : Setup) (es : List Event) → refusalOn call journal ≡ 0 → readJournal (journalAfter call journal) ≡ Year s es
-      → Shows (answerOf (answer call journal) .status) (replay s es)
-  pub answered : (call : Call) (journal : List ℕ) → refusalOn call journal ≡ 0 → answer call journal ≡ answer ReadStatus (journalAfter call journal)
+      → Shows (outcomeOf (answer call journal) .status) (replay s es)
+  pub answered : (call : Call) (journal : List ℕ) → refusalOn call journal ≡ 0 → answer call journal ≡ answer (Ask ReadStatus) (journalAfter call journal)
   -- what is written: the marks, at the front of the output
-  pub marks : (journal out : List ℕ) (s : Setup) (es : List Event) → readJournal journal ≡ Year s es → refusalOn (WriteMarks (length out)) journal ≡ 0
-      → outAfter journal out ≡ put out 0 (map markByte (printed 1024 (replay s es)))
+  pub marks : (journal out : List ℕ) (s : Setup) (es : List Event) → readJournal journal ≡ Year s es → refusalOn (Ask (Write Marks (length out))) journal ≡ 0
+      → outAfter Marks journal out ≡ put out 0 (map markByte (printed 1024 (replay s es)))
   -- "and hands back just that written part": the front of the output
-  pub handedBack : (journal out : List ℕ) → take (length (marksPart journal out)) (outAfter journal out) ≡ marksPart journal out
+  pub handedBack : (form : Form) (journal out : List ℕ) → take (length (outPart form journal out)) (outAfter form journal out) ≡ outPart form journal out
   -- "For one setup, every list of accepted events .. has one book, and every accepted book reads back as its setup and list."
   pub journals : OneJournal

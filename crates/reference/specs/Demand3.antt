@@ -18,8 +18,8 @@ use Rattle.year.specs.Work.{marksAt, verdictAt, cumsumAt, limitAt}
 use Rattle.year.specs.FinerWork.{FinerWork}
 use Rattle.journal.specs.Read.{readJournal}
 use Rattle.reference.specs.declared.Answer.the-variants.{Refused}
-use Rattle.reference.specs.Call.{Call, ReadStatus, WriteMarks}
-use Rattle.reference.specs.Answers.{refusalOn, answer, answerOf, outAfter, marksPart}
+use Rattle.reference.specs.Call.{Marks, ReadStatus, Write, Call, Ask}
+use Rattle.reference.specs.Answers.{refusalOn, answer, outcomeOf, outAfter, outPart}
 use Rattle.reference.specs.Refusals.{refusal}
 use Rattle.reference.specs.Model.{modelOf, journalOf, setupAccepted}
 use Rattle.reference.specs.Stored.{Holds}
@@ -27,16 +27,16 @@ use Rattle.reference.specs.Demand2.{figuresOf}
 
 -- the figures that status gives on a journal
 abbrev pub statusOn : List ℕ → Status
-statusOn journal = answerOf (answer ReadStatus journal) .status
+statusOn journal = outcomeOf (answer (Ask ReadStatus) journal) .status
 
 -- what the calculator gives on a journal is the work at m = 1 of this setup and these events
 pub record Calculated (journal : List ℕ) (s : Setup) (es : List Event) : Type 0 where
   -- "the strip, handed back in any buffer long enough, is the marks at m = 1"; and so are the bytes at the front of that buffer
-  pub marksAccepted : (out : List ℕ) → 2 * length (replay s es .tested) ≤ length out → refusalOn (WriteMarks (length out)) journal ≡ 0
-  pub marks : (out : List ℕ) → 2 * length (replay s es .tested) ≤ length out → marksPart journal out ≡ map markByte (marksAt 1 (replay s es))
-  pub out : (out : List ℕ) → 2 * length (replay s es .tested) ≤ length out → outAfter journal out ≡ put out 0 (map markByte (marksAt 1 (replay s es)))
+  pub marksAccepted : (out : List ℕ) → 2 * length (replay s es .tested) ≤ length out → refusalOn (Ask (Write Marks (length out))) journal ≡ 0
+  pub marks : (out : List ℕ) → 2 * length (replay s es .tested) ≤ length out → outPart Marks journal out ≡ map markByte (marksAt 1 (replay s es))
+  pub out : (out : List ℕ) → 2 * length (replay s es .tested) ≤ length out → outAfter Marks journal out ≡ put out 0 (map markByte (marksAt 1 (replay s es)))
   -- "the verdict from status is that at m = 1"
-  pub statusAccepted : refusalOn ReadStatus journal ≡ 0
+  pub statusAccepted : refusalOn (Ask ReadStatus) journal ≡ 0
   pub verdict : statusOn journal .verdict ≡ verdictAt 1 (replay s es)
   -- "The calculator's brackets are those at m = 1; from engine 2 on, status gives the newest engine's."
   pub cumsum : (q : Pollutant) → 2 ≤ length (replay s es .tested)
@@ -52,8 +52,8 @@ pub record FinerJournal (m : ℕ) (journal : List ℕ) (s : Setup) (es : List Ev
 
 -- "Before an accepted setup, status and strip are refused by 7."
 pub record BeforeSetup (journal : List ℕ) : Type 0 where
-  pub status : answer ReadStatus journal ≡ Refused 7
-  pub marks : (size : ℕ) → refusalOn (WriteMarks size) journal ≡ 7
+  pub status : answer (Ask ReadStatus) journal ≡ Refused 7
+  pub marks : (size : ℕ) → refusalOn (Ask (Write Marks size)) journal ≡ 7
 
 -- after a list of calls, in the order in which they are made; `modelOf` and `journalOf` take the newest first
 module _ (calls : List Call) (m : ℕ) where

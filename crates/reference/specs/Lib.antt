@@ -1,5 +1,4 @@
 pub mod Call
-pub mod Change
 pub mod Refusals
 pub mod Answers
 pub mod Model

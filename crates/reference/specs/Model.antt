@@ -5,22 +5,22 @@ use mathlib.Core.List.{List, [], _∷_}
 use Prim.Native.Nat.{ℕ}
 use lib.Dec.{eqb}
 use Rattle.buffers.specs.Bytes.{zeros}
+use Rattle.year.specs.Replay.{replay}
 use Rattle.year.specs.Model.{Model, NoSetup, Year}
-use Rattle.reference.specs.Call.{Entry, Call, SetUp, Enter, ReadStatus, WriteMarks, eventOf, isSetup}
+use Rattle.reference.specs.Call.{Entry, Call, SetUp, Enter, Ask, eventOf, isSetup}
 use Rattle.reference.specs.Refusals.{refusal}
 use Rattle.reference.specs.Answers.{journalAfter}
 
 -- "Each other accepted entry adds its event at the end": the newest event comes first in the list
 abbrev pub withEvent : Entry → Model → Model
 withEvent entry NoSetup = NoSetup
-withEvent entry (Year s es) = Year s (eventOf s entry ∷ es)
+withEvent entry (Year s es) = Year s (eventOf (replay s es) entry ∷ es)
 
 -- "An accepted setup becomes the setup, with no events."
 abbrev pub accepted : Call → Model → Model
 accepted (SetUp s) model = Year s []
 accepted (Enter entry) model = withEvent entry model
-accepted ReadStatus model = model
-accepted (WriteMarks size) model = model
+accepted (Ask query) model = model
 
 -- "A call is refused if a refusal above applies to its arguments and this state, read in the book's place. .. A refused call leaves the state."
 unfoldable pub stepModel : Call → Model → Model

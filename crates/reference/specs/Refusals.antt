@@ -12,7 +12,7 @@ use Rattle.year.specs.Setup.{both, standardsInRange, productionInRange, factors
 use Rattle.year.specs.Replay.{short, isTested}
 use Rattle.year.specs.Admissible.{closed, eventsFull, enginesFull, numberInRange, resultsInRange, lastPeriod}
 use Rattle.year.specs.Model.{Model, noSetup, ofYear}
-use Rattle.reference.specs.Call.{Readings, readingsOf, Call, resultsOf, isSetup, addsEvent, ofSetup, ofEntry, ofMarks, ofEngine, ofAmendment, ofPeriod}
+use Rattle.reference.specs.Call.{Readings, readingsOf, Call, resultsOf, isSetup, addsEvent, ofSetup, ofEntry, ofQuery, ofEngine, ofChange, ofAmendment, ofPeriod, ofMarks}
 
 -- "The reading counts differ or are not 1 to 3."
 abbrev pub countsFit : Readings → Bool
@@ -34,7 +34,7 @@ refusals size call model =
     -- P or D is out of range.
     ∷ (ofSetup (λ s. not (productionInRange s)) call, 4)
     -- A standard is out of range or no multiple of ten.
-    ∷ (ofSetup (λ s. not (standardsInRange (s .standards))) call || ofEntry (ofAmendment (λ standards. not (standardsInRange standards))) call, 5)
+    ∷ (ofSetup (λ s. not (standardsInRange (s .standards))) call || ofEntry (ofChange (ofAmendment (λ standards. not (standardsInRange standards)))) call, 5)
     -- A factor or its kind is out of range.
     ∷ (ofSetup (λ s. not (factorsInRange s)) call, 6)
     -- The buffer is no accepted book (not checked by setup).
@@ -54,9 +54,9 @@ refusals size call model =
     -- Forty engines are stored and another comes.
     ∷ (ofEntry (ofEngine (λ number readings. ofYear enginesFull model)) call, 14)
     -- The next period is wanted in the last period or while the current one is short.
-    ∷ (ofEntry (ofPeriod (ofYear (λ p. lastPeriod p || short p) model)) call, 15)
+    ∷ (ofEntry (ofChange (ofPeriod (ofYear (λ p. lastPeriod p || short p) model))) call, 15)
     -- The strip buffer has under 2n bytes.
-    ∷ (ofMarks (λ out. ofYear (λ p. ltb out (2 * length (p .tested))) model) call, 16)
+    ∷ (ofQuery (ofMarks (λ size. ofYear (λ p. ltb size (2 * length (p .tested))) model)) call, 16)
     ∷ []
 
 -- demand 1: "the first that applies, in 01's order, is the one returned"; 0 where none does

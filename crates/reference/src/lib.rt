@@ -1,4 +1,4 @@
-// What the public calls give back.
+// What the public calls take and give back.
 use year::Pair;
 use year::Status;
 
@@ -8,15 +8,15 @@ pub enum Answer {
     Refused(u8),
 }
 
-// The entries that come without readings.
+// A change: an entry that comes without readings.
 pub enum Change {
     Amend(Pair),
     BeginPeriod,
     Declare,
 }
 
-// What the marks call tells beside the bytes that it writes: its refusal, 0 for none, and how many bytes it wrote.
-pub struct MarksAnswer {
+// What a call that writes an output tells beside the bytes: its refusal, 0 for none, and how many bytes it wrote.
+pub struct OutputAnswer {
     pub refusal: u8,
     pub length: usize,
 }
