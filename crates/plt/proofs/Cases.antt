@@ -3,7 +3,8 @@ use mathlib.Core.Path.{refl}
 use Rattle.reference.specs.Refusals.{refusals, refusal}
 use Rattle.reference.specs.Answers.{answer, told}
 use Rattle.protocol.specs.KeyLine.{callOf, commandOf, numbersFrom}
-use Rattle.protocol.specs.Reply.{decimalUpTo, decimal, replyTo}
+use Rattle.protocol.specs.Reply.{replyTo}
+use Rattle.ascii.specs.Decimal.{decimalUpTo, decimal}
 use Rattle.plt.specs.Exports.{replyCount, refusalTold}
 use Rattle.plt.specs.Cases.{Cases}
 

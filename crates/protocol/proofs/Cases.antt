@@ -1,9 +1,10 @@
 -- The worked cases of the key line.
 -- Assumes nothing.
 use mathlib.Core.Path.{refl}
-use Rattle.protocol.specs.Number.{digits, spelt, isNumber, numberAt}
+use Rattle.protocol.specs.Number.{isNumber, numberAt}
+use Rattle.ascii.specs.Decimal.{digits, spelt}
 use Rattle.protocol.specs.KeyLine.{spacedNumber, numbersFrom, callOf, commandOf}
-use Rattle.protocol.specs.Reply.{decimalUpTo, decimal}
+use Rattle.ascii.specs.Decimal.{decimalUpTo, decimal}
 use Rattle.protocol.specs.Cases.{Cases}
 use Rattle.protocol.proofs.Run.{document-run}
 

@@ -30,12 +30,14 @@ use Rattle.year.specs.Cases.{setupOf, engine}
 use Rattle.journal.specs.Encode.{encode}
 use Rattle.journal.specs.Read.{readAs, readJournal}
 use Rattle.journal.proofs.Reading.{read-as}
-use Rattle.reference.specs.Call.{EnterEngine, Declare, Entry}
+use Rattle.reference.specs.Call.{EnterEngine, EnterChange, Entry}
+use Rattle.reference.specs.declared.Change.the-variants.{Declare}
 use Rattle.reference.specs.Refusals.{refusals, refusal}
 use Rattle.reference.specs.Answers.{journalAfter, answer}
-use Rattle.protocol.specs.Number.{digits, spelt, isNumber, numberAt}
+use Rattle.protocol.specs.Number.{isNumber, numberAt}
 use Rattle.protocol.specs.KeyLine.{spacedNumber, numbersFrom, callOf, commandOf}
-use Rattle.protocol.specs.Reply.{decimalUpTo, decimal, refusalReply, statusReply, replyTo, journalAfterLine}
+use Rattle.protocol.specs.Reply.{refusalReply, statusReply, replyTo, journalAfterLine}
+use Rattle.ascii.specs.Decimal.{digits, spelt, decimalUpTo, decimal}
 use Rattle.protocol.specs.Cases.{marked}
 use Rattle.protocol.specs.Run.{printed, run}
 use Rattle.protocol.proofs.Steps.{Does, Stored, entry-does, refused-does, marks-does, end, then, runs-replies}
@@ -126,7 +128,7 @@ lines =
           (entering 3 900000 5000000) (holding three) refl (simp (statistics.cases .deviationAt1024, deviation-none)) refl stored-three);
       line5 = simp (statistics.cases .deviationAt1024, of-3, deviation-none) at (marks-does (holding three) (text "L") plant three stored-three 80 refl refl);
       line6 = simp (statistics.cases .deviationAt1024, of-3, deviation-none) at (entry-does (holding three) (text "X") plant three stored-three
-          Declare (holding declared) refl (simp (statistics.cases .deviationAt1024, of-3, deviation-none)) refl stored-declared);
+          (EnterChange Declare) (holding declared) refl (simp (statistics.cases .deviationAt1024, of-3, deviation-none)) refl stored-declared);
       line7 = refused-does (holding declared) (text "E 4 1 1") plant declared stored-declared (entering 4 1 1) 8 refl refl (lit< tt);
     }
 

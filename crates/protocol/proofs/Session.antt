@@ -1,14 +1,15 @@
 -- Lines on a journal of zeros go the way of the reference model.
 -- Assumes nothing.
-use mathlib.Core.Path.{_≡_, refl, ap, _∙_}
+use mathlib.Core.Path.{_≡_, refl, _∙_}
 use mathlib.Core.Bool.{Bool, true, false, cond}
-use mathlib.Core.List.{List, [], _∷_, reverse, reverseAux}
+use mathlib.Core.List.{List, [], _∷_}
 use Prim.Native.Nat.{ℕ}
 use lib.Dec.{eqb}
+use Rattle.buffers.proofs.Tests.{cond-same}
 use Rattle.year.specs.Model.{Model}
 use Rattle.journal.proofs.OneJournal.{demand}
 use Rattle.reference.specs.declared.Answer.the-variants.{Accepted, Refused}
-use Rattle.reference.specs.Call.{Call, SetUp, Enter, ReadStatus, WriteMarks}
+use Rattle.reference.specs.Call.{Query, ReadStatus, Write, Call, SetUp, Enter, Ask}
 use Rattle.reference.specs.Refusals.{refusal}
 use Rattle.reference.specs.Answers.{statusOf, answer}
 use Rattle.reference.specs.Model.{stepModel, modelOf, journalOf}
@@ -18,7 +19,7 @@ use Rattle.reference.proofs.Untouched.{untouched}
 use Rattle.protocol.specs.KeyLine.{Command, Make, Refuse, commandOf}
 use Rattle.protocol.specs.Reply.{refusalReply, answerReply, callReply, commandReply, commandAfter, replyTo, journalAfterLine}
 use Rattle.protocol.specs.Run.{replies, journalAfterLines}
-use Rattle.protocol.specs.Session.{andCall, callsOf, modelReply, modelReplies, Session}
+use Rattle.protocol.specs.Session.{andCall, callsAfter, modelReply, modelReplies, Session}
 
 -- one call on a journal that holds the model's state
 module _ (calls : List Call) where
@@ -41,20 +42,16 @@ module _ (calls : List Call) where
       by true = refl
       by false = refl
 
-  -- a marks call leaves the state, accepted or not
-  marks-leave : (size : ℕ) → stepModel (WriteMarks size) model ≡ model
+  -- a query leaves the state, accepted or not
+  query-leaves : (query : Query) → stepModel (Ask query) model ≡ model
   unfolding stepModel
-  marks-leave size = by (eqb (refusal 544 (WriteMarks size) model) 0)
-    where
-      by : (b : Bool) → cond b model model ≡ model
-      by true = refl
-      by false = refl
+  query-leaves query = cond-same (eqb (refusal 544 (Ask query) model) 0) model
 
   call-reply : (call : Call) → callReply call journal ≡ modelReply (Make call) model
   call-reply (SetUp s) = status-reply (SetUp s)
   call-reply (Enter entry) = status-reply (Enter entry)
-  call-reply ReadStatus = status-reply ReadStatus
-  call-reply (WriteMarks size) = rw (holds .size, holds .reads, marks-leave size)
+  call-reply (Ask ReadStatus) = status-reply (Ask ReadStatus)
+  call-reply (Ask (Write form size)) = rw (holds .size, holds .reads, query-leaves (Write form size))
 
   command-reply : (command : Command) → commandReply command journal ≡ modelReply command model
   command-reply (Make call) = call-reply call
@@ -71,25 +68,20 @@ from-replies calls [] = refl
 from-replies calls (line ∷ lines) =
     rw (command-reply calls (commandOf line), command-after calls (commandOf line), from-replies (andCall (commandOf line) calls) lines)
 
--- a line's call comes before those of later lines
-then-calls : (command : Command) (later calls : List Call) → reverseAux later (andCall command calls) ≡ reverseAux (andCall command later) calls
-then-calls (Make call) later calls = refl
-then-calls (Refuse number) later calls = refl
-
-from-journal : (calls : List Call) (lines : List (List ℕ)) → journalAfterLines (journalOf calls) lines ≡ journalOf (reverseAux (callsOf lines) calls)
+from-journal : (calls : List Call) (lines : List (List ℕ)) → journalAfterLines (journalOf calls) lines ≡ journalOf (callsAfter calls lines)
 unfolding journalAfterLine
 from-journal calls [] = refl
-from-journal calls (line ∷ lines) =
-    rw (command-after calls (commandOf line)) (from-journal (andCall (commandOf line) calls) lines ∙ ap journalOf (then-calls (commandOf line) (callsOf lines) calls))
+from-journal calls (line ∷ lines) = rw (command-after calls (commandOf line)) (from-journal (andCall (commandOf line) calls) lines)
 
 pub session : (lines : List (List ℕ)) → Session lines
 session lines =
+    let calls = callsAfter [] lines in
     let same = from-journal [] lines in
-    let held = stored-calls .every (reverse (callsOf lines)) in
+    let held = stored-calls .every calls in
     record {
       replied = from-replies [] lines;
-      calls = same;
+      sameCalls = same;
       readsBack = rw same held;
-      untouched = λ e. same ∙ untouched (reverse (callsOf lines)) e;
-      stored = λ s es e. same ∙ demand .accepted (journalOf (reverse (callsOf lines))) s es (held .reads ∙ e) .stored;
+      untouched = λ e. same ∙ untouched calls e;
+      stored = λ s es e. same ∙ demand .accepted (journalOf calls) s es (held .reads ∙ e) .stored;
     }

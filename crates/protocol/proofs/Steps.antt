@@ -15,9 +15,9 @@ use Rattle.year.specs.Status.{status}
 use Rattle.year.specs.Model.{Year}
 use Rattle.journal.specs.Encode.{append}
 use Rattle.journal.specs.Read.{readJournal}
-use Rattle.reference.specs.Call.{Entry, Call, Enter, WriteMarks, eventOf}
+use Rattle.reference.specs.Call.{Entry, Marks, Write, Call, Enter, Ask, eventOf}
 use Rattle.reference.specs.Refusals.{refusal}
-use Rattle.reference.specs.Answers.{refusalOn, journalAfter, answer, markBytes}
+use Rattle.reference.specs.Answers.{refusalOn, journalAfter, answer, outBytes}
 use Rattle.protocol.specs.KeyLine.{Make, commandOf}
 use Rattle.protocol.specs.Reply.{refusalReply, statusReply, marksReply, replyTo, journalAfterLine}
 use Rattle.protocol.specs.Run.{replies}
@@ -38,12 +38,12 @@ module _ (journal line : List ℕ) (s : Setup) (es : List Event) (stored : Store
 
   -- an accepted entry
   module _ (entry : Entry) (next : List ℕ) (made : commandOf line ≡ Make (Enter entry)) (fine : refusal 544 (Enter entry) (Year s es) ≡ 0)
-      (appended : append journal (eventOf s entry) ≡ next) (after : Stored next s (eventOf s entry ∷ es)) where
+      (appended : append journal (eventOf (replay s es) entry) ≡ next) (after : Stored next s (eventOf (replay s es) entry ∷ es)) where
     entered : journalAfter (Enter entry) journal ≡ next
     unfolding journalAfter
     entered = rw (on-year (Enter entry) 0 fine, stored .isYear) appended
 
-    pub entry-does : Does line journal (statusReply (status 1024 (replay s (eventOf s entry ∷ es)))) next
+    pub entry-does : Does line journal (statusReply (status 1024 (replay s (eventOf (replay s es) entry ∷ es)))) next
     unfolding replyTo journalAfterLine answer
     entry-does =
         record {
@@ -61,11 +61,11 @@ module _ (journal line : List ℕ) (s : Setup) (es : List Event) (stored : Store
         record { replied = rw (made, no, f); left = rw (made, no, f) }
 
   -- the marks
-  pub marks-does : (size : ℕ) → commandOf line ≡ Make (WriteMarks size) → refusal 544 (WriteMarks size) (Year s es) ≡ 0
-      → Does line journal (marksReply (markBytes (Year s es))) journal
+  pub marks-does : (size : ℕ) → commandOf line ≡ Make (Ask (Write Marks size)) → refusal 544 (Ask (Write Marks size)) (Year s es) ≡ 0
+      → Does line journal (marksReply (outBytes Marks (Year s es))) journal
   unfolding replyTo journalAfterLine answer journalAfter
   marks-does size made h =
-      let fine = on-year (WriteMarks size) 0 h in
+      let fine = on-year (Ask (Write Marks size)) 0 h in
       record { replied = rw (made, fine, stored .isYear); left = rw (made, fine) }
 
 -- lines one after the other, each on the journal that the last one left

@@ -10,9 +10,11 @@ use Rattle.cumsum.specs.declared.Mark.{Mark}
 use Rattle.cumsum.specs.declared.Mark.the-variants.{Under, Undecided}
 use Rattle.year.specs.declared.Figures.{Figures}
 use Rattle.year.specs.Cases.{pair, setupOf}
-use Rattle.reference.specs.Call.{EnterEngine, Amend, BeginPeriod, Declare, SetUp, Enter, WriteMarks}
+use Rattle.reference.specs.Call.{EnterEngine, EnterChange, Marks, Write, SetUp, Enter, Ask}
+use Rattle.reference.specs.declared.Change.the-variants.{Amend, BeginPeriod, Declare}
 use Rattle.protocol.specs.KeyLine.{Make, Refuse, commandOf}
-use Rattle.protocol.specs.Reply.{decimal, refusalReply, marksReply, statusReply}
+use Rattle.protocol.specs.Reply.{refusalReply, marksReply, statusReply}
+use Rattle.ascii.specs.Decimal.{decimal}
 use Rattle.protocol.specs.Run.{linesOf, run}
 
 -- figures of which a reply shows the mark and the sample size
@@ -31,10 +33,10 @@ pub record Cases : Type 0 where
   -- each letter
   pub setup : commandOf (text "S 5000 365 800 6100 0 0 0 0") ≡ Make (SetUp (setupOf 5000 800))
   pub engine : commandOf (text "E 1 998000 5000000") ≡ Make (Enter (EnterEngine 1 (record { hcnox = 998000 ∷ []; co = 5000000 ∷ [] })))
-  pub amendment : commandOf (text "A 800 6100") ≡ Make (Enter (Amend (pair 800 6100)))
-  pub period : commandOf (text "P") ≡ Make (Enter BeginPeriod)
-  pub declaration : commandOf (text "X") ≡ Make (Enter Declare)
-  pub marks : commandOf (text "L") ≡ Make (WriteMarks 80)
+  pub amendment : commandOf (text "A 800 6100") ≡ Make (Enter (EnterChange (Amend (pair 800 6100))))
+  pub period : commandOf (text "P") ≡ Make (Enter (EnterChange BeginPeriod))
+  pub declaration : commandOf (text "X") ≡ Make (Enter (EnterChange Declare))
+  pub marks : commandOf (text "L") ≡ Make (Ask (Write Marks 80))
   -- each number of a setup in its place
   pub setupNumbers : commandOf (text "S 1 2 3 4 5 6 7 8")
       ≡ Make (SetUp (record {
@@ -54,7 +56,7 @@ pub record Cases : Type 0 where
   pub oddReadings : commandOf (text "E 7 1 2 3") ≡ Refuse 2
   pub noNumber : commandOf (text "E") ≡ Refuse 2
   -- 1 to 8 digits, no leading zero but in 0
-  pub eightDigits : commandOf (text "A 99999999 0") ≡ Make (Enter (Amend (pair 99999999 0)))
+  pub eightDigits : commandOf (text "A 99999999 0") ≡ Make (Enter (EnterChange (Amend (pair 99999999 0))))
   pub nineDigits : commandOf (text "A 100000000 0") ≡ Refuse 2
   pub leadingZero : commandOf (text "A 0800 6100") ≡ Refuse 2
   pub twoZeros : commandOf (text "A 00 0") ≡ Refuse 2

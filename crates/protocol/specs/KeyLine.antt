@@ -8,7 +8,9 @@ use lib.Dec.{ltb, eqb}
 use lib.ListN.{length, getD, take, drop}
 use Rattle.buffers.specs.Text.{byte}
 use Rattle.year.specs.declared.Setup.{Setup}
-use Rattle.reference.specs.Call.{EnterEngine, Amend, BeginPeriod, Declare, Call, SetUp, Enter, WriteMarks}
+use Rattle.reference.specs.Call.{EnterEngine, EnterChange, Marks, Write, Call, SetUp, Enter, Ask}
+use Rattle.reference.specs.declared.Change.{Change}
+use Rattle.reference.specs.declared.Change.the-variants.{Amend, BeginPeriod, Declare}
 use Rattle.protocol.specs.declared.Number.{Number}
 use Rattle.protocol.specs.declared.Number.the-variants.{Value, Nothing}
 use Rattle.protocol.specs.Number.{numberAt}
@@ -51,12 +53,15 @@ engineFrom vs =
     Enter (EnterEngine (getD vs 0 0) (record { hcnox = take (length vs / 2) (drop 1 vs); co = drop (length vs / 2) (drop 1 vs) }))
 
 -- "A: two standards."
-abbrev pub amendmentFrom : List ℕ → Call
-amendmentFrom vs = Enter (Amend (record { hcnox = getD vs 0 0; co = getD vs 1 0 }))
+abbrev pub amendmentFrom : List ℕ → Change
+amendmentFrom vs = Amend (record { hcnox = getD vs 0 0; co = getD vs 1 0 })
 
 -- a call, if the line has so many numbers
 abbrev pub ofCount : ℕ → List ℕ → Call → Option Call
 ofCount count vs call = cond (eqb (length vs) count) (some call) none
+
+abbrev pub changeOf : ℕ → List ℕ → Change → Option Call
+changeOf count vs change = ofCount count vs (Enter (EnterChange change))
 
 -- "An odd count of readings is refused by 2, an even count that is none or more than six by 11." The 11 is the call's own refusal. The 2 is given here: with the
 -- engine's number in front, an odd count of readings is an even count of numbers, and so is no number at all
@@ -68,10 +73,10 @@ unfoldable pub callOf : ℕ → List ℕ → Option Call
 callOf letter vs =
     cond (eqb letter (byte "S")) (ofCount 8 vs (SetUp (setupFrom vs)))
     (cond (eqb letter (byte "E")) (ofPairs vs (engineFrom vs))
-    (cond (eqb letter (byte "A")) (ofCount 2 vs (amendmentFrom vs))
-    (cond (eqb letter (byte "P")) (ofCount 0 vs (Enter BeginPeriod))
-    (cond (eqb letter (byte "X")) (ofCount 0 vs (Enter Declare))
-    (cond (eqb letter (byte "L")) (ofCount 0 vs (WriteMarks 80)) none)))))
+    (cond (eqb letter (byte "A")) (changeOf 2 vs (amendmentFrom vs))
+    (cond (eqb letter (byte "P")) (changeOf 0 vs BeginPeriod)
+    (cond (eqb letter (byte "X")) (changeOf 0 vs Declare)
+    (cond (eqb letter (byte "L")) (ofCount 0 vs (Ask (Write Marks 80))) none)))))
 
 -- what a line asks for: a call, or to be refused by 1 or 2
 pub data Command : Type 0 where

@@ -1,28 +1,15 @@
 -- Document 01, "Key line": a number at a position of a line.
 -- Assumes nothing.
 use mathlib.Core.Bool.{Bool, cond, not, _&&_, _||_}
-use mathlib.Core.List.{List, [], _∷_}
-use Prim.Native.Nat.{ℕ, suc, _+_, _*_, _-_}
+use mathlib.Core.List.{List}
+use Prim.Native.Nat.{ℕ, _+_}
 use lib.Dec.{eqb}
 use lib.ListN.{getD, take, drop}
 use Rattle.buffers.specs.Numbers.{within}
 use Rattle.buffers.specs.Text.{byte}
+use Rattle.ascii.specs.Decimal.{digits, spelt}
 use Rattle.protocol.specs.declared.Number.{Number}
 use Rattle.protocol.specs.declared.Number.the-variants.{Value, Nothing}
-
--- '0' to '9'
-abbrev pub isDigit : ℕ → Bool
-isDigit = within (byte "0") (byte "9")
-
--- how many digits the bytes start with
-unfoldable pub digits : List ℕ → ℕ
-digits [] = 0
-digits (b ∷ bs) = cond (isDigit b) (suc (digits bs)) 0
-
--- the decimal number that digits spell, after those that make v
-unfoldable pub spelt : ℕ → List ℕ → ℕ
-spelt v [] = v
-spelt v (b ∷ bs) = spelt (v * 10 + (b - byte "0")) bs
 
 -- "A number has 1 to 8 digits and no leading zero but in 0": the `count` digits at a position are one
 unfoldable pub isNumber : List ℕ → ℕ → ℕ → Bool

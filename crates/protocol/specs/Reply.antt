@@ -1,10 +1,9 @@
 -- Document 01, "Key line": the reply to a line, and the journal after it.
 -- Assumes nothing.
-use mathlib.Core.Bool.{cond}
 use mathlib.Core.List.{List, [], _∷_, _++_}
-use Prim.Native.Nat.{ℕ, zero, suc, _+_, _/_, _%_}
-use lib.Dec.{ltb}
+use Prim.Native.Nat.{ℕ}
 use Rattle.buffers.specs.Text.{byte, text}
+use Rattle.ascii.specs.Decimal.{decimal}
 use Rattle.statistics.specs.declared.SampleSize.{SampleSize}
 use Rattle.statistics.specs.declared.SampleSize.the-variants.{Tenths, Absent}
 use Rattle.cumsum.specs.Marks.{markByte}
@@ -12,18 +11,9 @@ use Rattle.year.specs.declared.Status.{Status}
 use Rattle.journal.specs.Read.{readJournal}
 use Rattle.reference.specs.declared.Answer.{Answer}
 use Rattle.reference.specs.declared.Answer.the-variants.{Accepted, Refused}
-use Rattle.reference.specs.Call.{Call, SetUp, Enter, ReadStatus, WriteMarks}
-use Rattle.reference.specs.Answers.{refusalOn, ifAccepted, answer, journalAfter, markBytes}
+use Rattle.reference.specs.Call.{Form, Marks, Query, ReadStatus, Write, Call, SetUp, Enter, Ask}
+use Rattle.reference.specs.Answers.{refusalOn, ifAccepted, answer, journalAfter, outBytes}
 use Rattle.protocol.specs.KeyLine.{Command, Make, Refuse, commandOf}
-
--- "Every number is decimal": its digits, at most `most` of them, with no leading zero but in 0
-unfoldable pub decimalUpTo : ℕ → ℕ → List ℕ
-decimalUpTo zero n = []
-decimalUpTo (suc most) n = cond (ltb n 10) ((byte "0" + n) ∷ []) (decimalUpTo most (n / 10) ++ ((byte "0" + n % 10) ∷ []))
-
--- a number n has no more than n + 1 digits
-unfoldable pub decimal : ℕ → List ℕ
-decimal n = decimalUpTo (suc n) n
 
 -- bytes with a space in front of them
 abbrev pub spaced : List ℕ → List ℕ
@@ -37,6 +27,9 @@ refusalReply number = text "NO" ++ spaced (decimal number)
 abbrev pub marksReply : List ℕ → List ℕ
 marksReply [] = text "OK"
 marksReply (b ∷ bs) = text "OK" ++ spaced (b ∷ bs)
+
+abbrev pub outReply : Form → List ℕ → List ℕ
+outReply Marks bytes = marksReply bytes
 
 -- "N in tenths for each pollutant ('-' for none)"
 abbrev pub sizeText : SampleSize → List ℕ
@@ -54,12 +47,15 @@ answerReply (Accepted s) = statusReply s
 answerReply (Refused number) = refusalReply number
 
 -- the reply to a call on a journal: the marks for a marks call, the status for any other
+abbrev pub queryReply : Query → List ℕ → List ℕ
+queryReply ReadStatus journal = answerReply (answer (Ask ReadStatus) journal)
+queryReply (Write form size) journal =
+    ifAccepted (Ask (Write form size)) journal (outReply form (outBytes form (readJournal journal))) (refusalReply (refusalOn (Ask (Write form size)) journal))
+
 abbrev pub callReply : Call → List ℕ → List ℕ
 callReply (SetUp s) journal = answerReply (answer (SetUp s) journal)
 callReply (Enter entry) journal = answerReply (answer (Enter entry) journal)
-callReply ReadStatus journal = answerReply (answer ReadStatus journal)
-callReply (WriteMarks size) journal =
-    ifAccepted (WriteMarks size) journal (marksReply (markBytes (readJournal journal))) (refusalReply (refusalOn (WriteMarks size) journal))
+callReply (Ask query) journal = queryReply query journal
 
 abbrev pub commandReply : Command → List ℕ → List ℕ
 commandReply (Make call) journal = callReply call journal

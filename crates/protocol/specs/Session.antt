@@ -2,7 +2,7 @@
 -- Assumes nothing.
 use mathlib.Core.Path.{_≡_}
 use mathlib.Core.Bool.{cond}
-use mathlib.Core.List.{List, [], _∷_, reverse}
+use mathlib.Core.List.{List, [], _∷_}
 use Prim.Native.Nat.{ℕ}
 use lib.Dec.{eqb}
 use Rattle.buffers.specs.Bytes.{zeros}
@@ -10,13 +10,13 @@ use Rattle.year.specs.declared.Setup.{Setup}
 use Rattle.year.specs.declared.Event.{Event}
 use Rattle.year.specs.Model.{Model, NoSetup, Year}
 use Rattle.journal.specs.Encode.{encode}
-use Rattle.reference.specs.Call.{Call, SetUp, Enter, ReadStatus, WriteMarks}
+use Rattle.reference.specs.Call.{Query, ReadStatus, Write, Call, SetUp, Enter, Ask}
 use Rattle.reference.specs.Refusals.{refusal}
-use Rattle.reference.specs.Answers.{statusOf, markBytes}
+use Rattle.reference.specs.Answers.{statusOf, outBytes}
 use Rattle.reference.specs.Model.{stepModel, modelOf, journalOf}
 use Rattle.reference.specs.Stored.{Holds}
 use Rattle.protocol.specs.KeyLine.{Command, Make, Refuse, commandOf}
-use Rattle.protocol.specs.Reply.{refusalReply, marksReply, statusReply}
+use Rattle.protocol.specs.Reply.{refusalReply, outReply, statusReply}
 use Rattle.protocol.specs.Run.{replies, journalAfterLines}
 
 -- the call that a line makes, in front of others; a line refused by 1 or 2 makes none
@@ -24,17 +24,20 @@ abbrev pub andCall : Command → List Call → List Call
 andCall (Make call) calls = call ∷ calls
 andCall (Refuse number) calls = calls
 
--- the calls that lines make, in the order of the lines
-abbrev pub callsOf : List (List ℕ) → List Call
-callsOf [] = []
-callsOf (line ∷ lines) = andCall (commandOf line) (callsOf lines)
+-- the calls that lines make, after some earlier calls; the newest call comes first
+abbrev pub callsAfter : List Call → List (List ℕ) → List Call
+callsAfter calls [] = calls
+callsAfter calls (line ∷ lines) = callsAfter (andCall (commandOf line) calls) lines
 
 -- what the model replies to an accepted call that leaves it in this state: its marks to a marks call, its status to any other
+abbrev pub acceptedQuery : Query → Model → List ℕ
+acceptedQuery ReadStatus model = statusReply (statusOf model)
+acceptedQuery (Write form size) model = outReply form (outBytes form model)
+
 abbrev pub acceptedReply : Call → Model → List ℕ
 acceptedReply (SetUp s) model = statusReply (statusOf model)
 acceptedReply (Enter entry) model = statusReply (statusOf model)
-acceptedReply ReadStatus model = statusReply (statusOf model)
-acceptedReply (WriteMarks size) model = marksReply (markBytes model)
+acceptedReply (Ask query) model = acceptedQuery query model
 
 -- "A call is refused if a refusal above applies to its arguments and this state, read in the book's place."
 abbrev pub modelReply : Command → Model → List ℕ
@@ -48,16 +51,16 @@ modelReplies calls [] = []
 modelReplies calls (line ∷ lines) = modelReply (commandOf line) (modelOf calls) ∷ modelReplies (andCall (commandOf line) calls) lines
 
 module _ (lines : List (List ℕ)) where
-  abbrev newestFirst : List Call
-  newestFirst = reverse (callsOf lines)
+  abbrev calls : List Call
+  calls = callsAfter [] lines
 
   -- lines on a journal of 544 zeros
   pub record Session : Type 0 where
     -- the replies are those of the model
     pub replied : replies (zeros 544) lines ≡ modelReplies [] lines
     -- the journal is that of the lines' calls, and it is read as the model
-    pub calls : journalAfterLines (zeros 544) lines ≡ journalOf newestFirst
-    pub readsBack : Holds (journalAfterLines (zeros 544) lines) (modelOf newestFirst)
+    pub sameCalls : journalAfterLines (zeros 544) lines ≡ journalOf calls
+    pub readsBack : Holds (journalAfterLines (zeros 544) lines) (modelOf calls)
     -- so every byte of it is the model's: zeros as long as no setup was accepted, and then its stored form
-    pub untouched : modelOf newestFirst ≡ NoSetup → journalAfterLines (zeros 544) lines ≡ zeros 544
-    pub stored : (s : Setup) (es : List Event) → modelOf newestFirst ≡ Year s es → journalAfterLines (zeros 544) lines ≡ encode s es
+    pub untouched : modelOf calls ≡ NoSetup → journalAfterLines (zeros 544) lines ≡ zeros 544
+    pub stored : (s : Setup) (es : List Event) → modelOf calls ≡ Year s es → journalAfterLines (zeros 544) lines ≡ encode s es

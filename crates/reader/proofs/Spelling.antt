@@ -13,7 +13,8 @@ use lib.ListN.{length, take, drop, getD, drop-of-length-le}
 use lib.Seq.{drop-cons}
 use borrow.Author.Tests.{leb-true}
 use Rattle.buffers.specs.Numbers.{within}
-use Rattle.protocol.specs.Number.{isDigit, digits, spelt, isNumber}
+use Rattle.protocol.specs.Number.{isNumber}
+use Rattle.ascii.specs.Decimal.{isDigit, digits, spelt}
 
 within-true : (low high x : ℕ) → within low high x ≡ true → (low ≤ x) × (x ≤ high)
 within-true low high x e =

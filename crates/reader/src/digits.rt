@@ -2,7 +2,8 @@
 ghost use mathlib.Core.Path.{_≡_};
 ghost use Prim.Native.Nat.{_+_, _-_, _≤_};
 ghost use lib.ListN.{take, drop};
-ghost use Rattle.protocol.specs.Number.{isDigit, digits, spelt, isNumber, numberAt};
+ghost use Rattle.protocol.specs.Number.{isNumber, numberAt};
+ghost use Rattle.ascii.specs.Decimal.{isDigit, digits, spelt};
 use protocol::Number;
 
 fn is_digit(b: u8) -> bool

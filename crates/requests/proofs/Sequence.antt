@@ -16,7 +16,8 @@ use Rattle.buffers.proofs.Lists.{put-one, put-none, put-put}
 use Rattle.buffers.proofs.Tests.{by-test}
 use Rattle.protocol.specs.declared.Number.{Number}
 use Rattle.protocol.specs.declared.Number.the-variants.{Value, Nothing}
-use Rattle.protocol.specs.Number.{isDigit, digits, spelt, isNumber, numberAt}
+use Rattle.protocol.specs.Number.{isNumber, numberAt}
+use Rattle.ascii.specs.Decimal.{isDigit, digits, spelt}
 use Rattle.protocol.specs.KeyLine.{spacedNumber, inFront, numbersFrom}
 use Rattle.reader.proofs.Spelling.{number-size}
 use Rattle.requests.specs.Numbers.{numbersRead}

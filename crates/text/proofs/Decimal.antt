@@ -10,7 +10,7 @@ use lib.Dec.{lit<, ltb}
 use Rattle.buffers.specs.Text.{byte}
 use Rattle.buffers.proofs.Tests.{by-test}
 use Rattle.io.specs.Digits.{digits, Fewest, glyph}
-use Rattle.protocol.specs.Reply.{decimalUpTo, decimal}
+use Rattle.ascii.specs.Decimal.{decimalUpTo, decimal}
 
 -- a number below 10 ^ i has at most i digits
 few-digits : (i k n : ℕ) → 1 ≤ i → n < 10 ^ i → Fewest 10 1 n k → k ≤ i

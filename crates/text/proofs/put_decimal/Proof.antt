@@ -2,7 +2,7 @@
 use mathlib.Core.Path.{_≡_, _∙_}
 use native.Mathlib.Omega.{arith}
 use lib.ListN.{take}
-use Rattle.protocol.specs.Reply.{decimal}
+use Rattle.ascii.specs.Decimal.{decimal}
 use Rattle.text.proofs.Decimal.{twenty-digits, digits-decimal}
 use borrow.Author.Needs.{needs}
 use Rattle.text.proofs.put_decimal.Statement.{statement}

@@ -4,7 +4,7 @@ use Prim.Native.Nat.{_≤_, _+_, _-_}
 use native.Mathlib.Omega.{arith}
 use lib.ListN.{length, drop}
 use borrow.Author.Tests.{not-true, not-false}
-use Rattle.protocol.specs.Number.{digits}
+use Rattle.ascii.specs.Decimal.{digits}
 use Rattle.reader.proofs.Spelling.{digits-past, digits-stop, digits-step}
 use Rattle.reader.proofs.digits.digits_end.Statement.{statement}
 use Rattle.reader.proofs.digits.digits_end.Tie as tie

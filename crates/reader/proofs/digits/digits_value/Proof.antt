@@ -7,7 +7,7 @@ use Prim.Native.Nat.{ℕ, _+_, _-_, _^_, _≤_, _<_}
 use native.Mathlib.Omega.{arith}
 use lib.Dec.{lit<}
 use lib.ListN.{length, take, drop, getD}
-use Rattle.protocol.specs.Number.{isDigit, digits, spelt}
+use Rattle.ascii.specs.Decimal.{isDigit, digits, spelt}
 use Rattle.reader.proofs.Spelling.{digit-bounds, digits-here, digits-step, spelt-step, below-next, room}
 use Rattle.reader.proofs.digits.digits_value.Statement.{statement}
 use Rattle.reader.proofs.digits.digits_value.Tie as tie

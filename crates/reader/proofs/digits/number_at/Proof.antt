@@ -5,7 +5,8 @@ use native.Mathlib.Omega.{arith}
 use lib.ListN.{drop}
 use borrow.Author.Needs.{needs}
 use borrow.Author.Tests.{not-true, not-false}
-use Rattle.protocol.specs.Number.{digits, numberAt}
+use Rattle.protocol.specs.Number.{numberAt}
+use Rattle.ascii.specs.Decimal.{digits}
 use Rattle.reader.proofs.Spelling.{number-size}
 use Rattle.reader.proofs.digits.number_at.Statement.{statement}
 use Rattle.reader.proofs.digits.number_at.Tie as tie

@@ -1,0 +1,30 @@
+-- "Every number is decimal" (document 01, "The year that a book holds"): the digits of a number, and the number that digits spell.
+use mathlib.Core.Bool.{Bool, cond}
+use mathlib.Core.List.{List, [], _∷_, _++_}
+use Prim.Native.Nat.{ℕ, zero, suc, _+_, _*_, _-_, _/_, _%_}
+use lib.Dec.{ltb}
+use Rattle.buffers.specs.Numbers.{within}
+use Rattle.buffers.specs.Text.{byte}
+
+-- '0' to '9'
+abbrev pub isDigit : ℕ → Bool
+isDigit = within (byte "0") (byte "9")
+
+-- how many digits the bytes start with
+unfoldable pub digits : List ℕ → ℕ
+digits [] = 0
+digits (b ∷ bs) = cond (isDigit b) (suc (digits bs)) 0
+
+-- the decimal number that digits spell, after those that make v
+unfoldable pub spelt : ℕ → List ℕ → ℕ
+spelt v [] = v
+spelt v (b ∷ bs) = spelt (v * 10 + (b - byte "0")) bs
+
+-- the digits of a number, at most `most` of them, with no leading zero but in 0
+unfoldable pub decimalUpTo : ℕ → ℕ → List ℕ
+decimalUpTo zero n = []
+decimalUpTo (suc most) n = cond (ltb n 10) ((byte "0" + n) ∷ []) (decimalUpTo most (n / 10) ++ ((byte "0" + n % 10) ∷ []))
+
+-- a number n has no more than n + 1 digits
+unfoldable pub decimal : ℕ → List ℕ
+decimal n = decimalUpTo (suc n) n

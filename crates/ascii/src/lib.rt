@@ -1,0 +1,1 @@
+// Text as bytes. The definitions are in specs/; no type is declared here.
