@@ -1,4 +1,1 @@
-pub mod Told
-pub mod Ranging
-pub mod Parts
-pub mod OneEngine
+pub mod Decided

@@ -1,15 +1,79 @@
-// Which calls are refused, and what an entry that is not refused adds: the tests of the one table of refusals, in its order. The definitions are those of the
-// crate reference.
-pub mod engine;
-pub mod entries;
-pub mod readings;
-pub mod refusals;
-pub mod rows;
-
+// What an entry comes to: the event that it adds, or the number of its refusal. Nothing is written. The decision on a change is made here, that on an engine in
+// the crate engine_decision.
+ghost use mathlib.Core.Path.{_≡_};
+ghost use mathlib.Core.Bool.{not, _||_};
+ghost use Rattle.year.specs.Setup.{standardsInRange};
+ghost use Rattle.progress.specs.State.{shown, Consistent};
+ghost use Rattle.journal.specs.Read.{readJournal};
+ghost use Rattle.reference.specs.Call.{EnterChange, changeEvent, ofAmendment};
+ghost use Rattle.scan.specs.Scan.{Tells};
+ghost use Rattle.decisions.specs.Decisions.{decision, decisionOn, changeRefusal};
+use admission::period_fits;
+use progress::Progress;
+use reference::Change;
+use refusals::entry_refusal;
+use refusals::row;
+use scan::Scanned;
+use schedule::standards_in_range;
 use year::Event;
 
-// What an entry comes to: the event that it adds, or the number of its refusal.
 pub enum Decision {
     Add(Event),
     Refuse(u8),
+}
+
+// An event is added where no row applies.
+pub fn decide(refusal: u8, e: Event) -> Decision
+    ensures { λ r. ⌜ r ≡ decision refusal e ⌝ }
+{
+    if refusal == 0 {
+        return Decision::Add(e);
+    }
+    Decision::Refuse(refusal)
+}
+
+// The test of 5: an amendment's standards are out of range or no multiples of ten.
+fn is_unfit(c: Change) -> bool
+    ensures { λ r. ⌜ r ≡ ofAmendment (λ standards. not (standardsInRange standards)) c ⌝ }
+{
+    match c {
+        Change::Amend(standards) => !standards_in_range(standards),
+        Change::BeginPeriod => false,
+        Change::Declare => false,
+    }
+}
+
+// 15, of a change on a year that holds.
+fn change_refusal(p: Progress, c: Change) -> u8
+    requires { ⌜ Consistent p ⌝ }
+    ensures { λ r. ⌜ r ≡ changeRefusal c (shown p) ⌝ }
+{
+    match c {
+        Change::Amend(_) => 0,
+        Change::BeginPeriod => row(!period_fits(p), 15, 0),
+        Change::Declare => 0,
+    }
+}
+
+// The event that a change adds.
+fn change_event(c: Change) -> Event
+    ensures { λ r. ⌜ r ≡ changeEvent c ⌝ }
+{
+    match c {
+        Change::Amend(standards) => Event::Amendment(standards),
+        Change::BeginPeriod => Event::NextPeriod,
+        Change::Declare => Event::Declaration,
+    }
+}
+
+// The decision on a change: the rows that every entry may meet, and then its own.
+pub fn change(journal: &[u8], scanned: Scanned, c: Change) -> Decision
+    requires { ⌜ Tells scanned (readJournal (now journal)) ⌝ }
+    ensures { λ r. ⌜ r ≡ decisionOn (EnterChange c) (now (journal .entry)) ⌝ }
+{
+    let refusal = entry_refusal(journal, is_unfit(c), scanned);
+    if refusal != 0 {
+        return Decision::Refuse(refusal);
+    }
+    decide(change_refusal(scanned.progress, c), change_event(c))
 }

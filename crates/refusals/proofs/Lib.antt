@@ -1,0 +1,2 @@
+pub mod ScannedYear
+pub mod Parts

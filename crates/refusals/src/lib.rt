@@ -1,0 +1,75 @@
+// Which calls are refused, by which number: the tests of the one table of refusals (`refusals` of the crate reference), in its order. Nothing is written.
+ghost use mathlib.Core.Path.{_≡_};
+ghost use mathlib.Core.Bool.{cond};
+ghost use Rattle.buffers.specs.Rows.{first};
+ghost use Rattle.journal.specs.Read.{readJournal};
+ghost use Rattle.reference.specs.Call.{Marks, ReadStatus, Write, SetUp, Ask};
+ghost use Rattle.reference.specs.Answers.{refusalOn};
+ghost use Rattle.scan.specs.Scan.{Tells};
+ghost use Rattle.refusals.specs.Parts.{entryRows};
+use scan::Scanned;
+use schedule::factors_in_range;
+use schedule::production_in_range;
+use schedule::standards_in_range;
+use verdicts::verdict::closed;
+use year::Setup;
+
+// The number of a row that applies, otherwise what the later rows say.
+pub fn row(applies: bool, number: u8, later: u8) -> u8
+    ensures { λ r. ⌜ r ≡ cond applies number later ⌝ }
+{
+    if applies {
+        return number;
+    }
+    later
+}
+
+// 3, 4, 5 and 6. Setup asks nothing of what the buffer holds.
+pub fn setup_refusal(journal: &[u8], s: Setup) -> u8
+    ensures { λ r. ⌜ r ≡ refusalOn (SetUp s) (now (journal .entry)) ⌝ }
+{
+    let standards = s.standards;
+    let factors = row(!factors_in_range(s), 6, 0);
+    let standard = row(!standards_in_range(standards), 5, factors);
+    let production = row(!production_in_range(s), 4, standard);
+    row(journal.len() != 544, 3, production)
+}
+
+// 3 and 7.
+pub fn status_refusal(journal: &[u8], scanned: Scanned) -> u8
+    requires { ⌜ Tells scanned (readJournal (now journal)) ⌝ }
+    ensures { λ r. ⌜ r ≡ refusalOn (Ask ReadStatus) (now (journal .entry)) ⌝ }
+{
+    row(journal.len() != 544, 3, row(!scanned.accepted, 7, 0))
+}
+
+// 3, 7 and 16, for an output of this size.
+pub fn marks_refusal(journal: &[u8], scanned: Scanned, size: usize) -> u8
+    requires { ⌜ Tells scanned (readJournal (now journal)) ⌝ }
+    ensures { λ r. ⌜ r ≡ refusalOn (Ask (Write Marks size)) (now (journal .entry)) ⌝ }
+{
+    let unread = status_refusal(journal, scanned);
+    if unread != 0 {
+        return unread;
+    }
+    let n = scanned.progress.engines.count;
+    row(size < 2 * n, 16, 0)
+}
+
+// 3, 7, 8 and 9, which every entry may meet, and in its place 5, where an amendment's standards are unfit.
+pub fn entry_refusal(journal: &[u8], unfit: bool, scanned: Scanned) -> u8
+    requires { ⌜ Tells scanned (readJournal (now journal)) ⌝ }
+    ensures { λ r. ⌜ r ≡ first (entryRows unfit (now (journal .entry))) 0 ⌝ }
+{
+    if journal.len() != 544 {
+        return 3;
+    }
+    if unfit {
+        return 5;
+    }
+    if !scanned.accepted {
+        return 7;
+    }
+    let p = scanned.progress;
+    row(closed(p), 8, row(64 <= p.stored, 9, 0))
+}
