@@ -6,5 +6,6 @@ pub mod Untouched
 pub mod Given
 pub mod Entering
 pub mod Demand1
+pub mod Promises
 pub mod Demand2
 pub mod Demand3

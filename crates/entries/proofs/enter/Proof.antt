@@ -1,13 +1,13 @@
--- `enter` meets its contract. Assumes nothing.
+-- `enter` meets its contract.
 use mathlib.Core.Path.{sym, ap, subst, _∙_}
 use Rattle.year.specs.Status.{status}
 use Rattle.reference.specs.declared.Answer.the-variants.{Accepted}
 use Rattle.encoder.proofs.Fits.{event-fits}
 use Rattle.progress.specs.State.{shown}
-use Rattle.calls.specs.Entering.{CanAdd, Enterable, answerTo}
+use Rattle.entries.specs.Entering.{CanAdd, Enterable, answerTo}
 use borrow.Author.Needs.{needs}
-use Rattle.calls.proofs.enter.Statement.{statement}
-use Rattle.calls.proofs.enter.Tie as tie
+use Rattle.entries.proofs.enter.Statement.{statement}
+use Rattle.entries.proofs.enter.Tie as tie
 
 enum-known-decision : tie.Need-enum-known-decision
 enum-known-decision c = search needs

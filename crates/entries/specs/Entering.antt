@@ -1,5 +1,4 @@
 -- What is done with the decision on an entry, in the words of the definitions.
--- Assumes nothing.
 use mathlib.Core.Path.{_≡_}
 use mathlib.Core.Bool.{true}
 use mathlib.Core.List.{List}

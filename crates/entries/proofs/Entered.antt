@@ -1,5 +1,4 @@
 -- What is done with the decision on an entry is what the definitions say of the entry on the journal, and can be done.
--- Assumes nothing.
 use mathlib.Core.Path.{_≡_, refl, sym, ap, _∙_}
 use mathlib.Core.List.{List}
 use Prim.Native.Nat.{ℕ}
@@ -10,7 +9,6 @@ use Rattle.year.specs.declared.Setup.{Setup}
 use Rattle.year.specs.declared.Event.{Event}
 use Rattle.year.specs.Replay.{replay}
 use Rattle.year.specs.Model.{Year}
-use Rattle.year.proofs.Replayed.{replay-setup}
 use Rattle.progress.specs.State.{shown}
 use Rattle.journal.specs.Read.{readJournal}
 use Rattle.reference.specs.Call.{Entry, Enter, eventOf}
@@ -24,16 +22,16 @@ use Rattle.scan.specs.Scan.{progressOf, Tells}
 use Rattle.decisions.specs.declared.Decision.{Decision}
 use Rattle.decisions.specs.declared.Decision.the-variants.{Add, Refuse}
 use Rattle.decisions.specs.Decisions.{decisionOn}
-use Rattle.decisions.proofs.Told.{told-consistent}
-use Rattle.calls.specs.Entering.{CanAdd, Enterable, answerTo, journalWith}
-use Rattle.calls.proofs.Promises.{Promised, promised}
+use Rattle.refusals.proofs.ScannedYear.{told-consistent}
+use Rattle.entries.specs.Entering.{CanAdd, Enterable, answerTo, journalWith}
+use Rattle.reference.proofs.Promises.{Promised, promised}
 
 module _ (entry : Entry) (journal : List ℕ) (scanned : Scanned) (t : Tells scanned (readJournal journal)) where
   abbrev number : ℕ
   number = refusalOn (Enter entry) journal
 
   abbrev event : Event
-  event = eventOf (progressOf (readJournal journal) .setup) entry
+  event = eventOf (progressOf (readJournal journal)) entry
 
   -- an entry is accepted, on a year, or refused
   by-decision : (P : Decision → Type 0) → ((s : Setup) (es : List Event) → readJournal journal ≡ Year s es → number ≡ 0 → P (Add event))
@@ -47,8 +45,8 @@ module _ (entry : Entry) (journal : List ℕ) (scanned : Scanned) (t : Tells sca
     year-is : shown (scanned .progress) ≡ replay s es
     year-is = t .year ∙ ap progressOf e
 
-    event-is : event ≡ eventOf s entry
-    event-is = rw (e, replay-setup s es)
+    event-is : event ≡ eventOf (replay s es) entry
+    event-is = rw e
 
     can-add : number ≡ 0 → CanAdd journal (scanned .progress) event
     can-add h =

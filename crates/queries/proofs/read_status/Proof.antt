@@ -1,12 +1,13 @@
--- `read_status` meets its contract. Assumes nothing.
+-- `read_status` meets its contract.
 use mathlib.Core.Path.{_≡_, sym, _∙_}
-use Rattle.reference.specs.Call.{ReadStatus}
+use Rattle.reference.specs.Call.{ReadStatus, Ask}
 use Rattle.reference.specs.Answers.{refusalOn}
 use Rattle.scan.proofs.Whole.{tells}
 use borrow.Author.Needs.{needs}
-use Rattle.calls.proofs.Promises.{refused, status-ready, status-done}
-use Rattle.calls.proofs.read_status.Statement.{statement}
-use Rattle.calls.proofs.read_status.Tie as tie
+use Rattle.reference.proofs.Promises.{refused}
+use Rattle.queries.proofs.Written.{status-ready, status-done}
+use Rattle.queries.proofs.read_status.Statement.{statement}
+use Rattle.queries.proofs.read_status.Tie as tie
 
 scan-journal-requires : tie.Need-scan-journal-requires
 scan-journal-requires c κs = search needs
@@ -17,10 +18,10 @@ status-refusal-requires c κs = search needs
 returns : tie.Need-returns
 returns c =
     let r = c .before .status-refusal in
-    let kept = refused ReadStatus (c .before .before .before .before .args .journal .now) (r .result) (r .ensures) (c .if1 .taken) in
+    let kept = refused (Ask ReadStatus) (c .before .before .before .before .args .journal .now) (r .result) (r .ensures) (c .if1 .taken) in
     (kept .0, kept .1 .0)
 
-none : (c : tie.Else1) → refusalOn ReadStatus (c .before .before .before .before .args .journal .now) ≡ 0
+none : (c : tie.Else1) → refusalOn (Ask ReadStatus) (c .before .before .before .before .args .journal .now) ≡ 0
 none c = sym (c .before .status-refusal .ensures) ∙ c .if1 .left
 
 status-of-requires : tie.Need-status-of-requires

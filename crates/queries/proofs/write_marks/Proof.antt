@@ -1,14 +1,14 @@
--- `write_marks` meets its contract. Assumes nothing.
+-- `write_marks` meets its contract.
 use mathlib.Core.Path.{_≡_, sym, _∙_}
 use native.Mathlib.Omega.{arith}
 use lib.ListN.{length}
-use Rattle.reference.specs.Call.{WriteMarks}
+use Rattle.reference.specs.Call.{Marks, Write, Ask}
 use Rattle.reference.specs.Answers.{refusalOn}
 use Rattle.scan.proofs.Whole.{tells}
 use borrow.Author.Needs.{needs}
-use Rattle.calls.proofs.Promises.{marks-refused, marks-few, marks-room, marks-range, marks-done}
-use Rattle.calls.proofs.write_marks.Statement.{statement}
-use Rattle.calls.proofs.write_marks.Tie as tie
+use Rattle.queries.proofs.Written.{marks-refused, marks-few, marks-room, marks-range, marks-done}
+use Rattle.queries.proofs.write_marks.Statement.{statement}
+use Rattle.queries.proofs.write_marks.Tie as tie
 
 scan-journal-requires : tie.Need-scan-journal-requires
 scan-journal-requires c κs = search needs
@@ -23,7 +23,7 @@ returns c =
     let a = c .before .before .before .before .before .args in
     marks-refused (a .journal .now) (k .result) (tells (k .result) _ (k .ensures)) (a .out .now) (r .result) (r .ensures) (c .if1 .taken)
 
-none : (c : tie.Else1) → let a = c .before .before .before .before .before .args in refusalOn (WriteMarks (length (a .out .now))) (a .journal .now) ≡ 0
+none : (c : tie.Else1) → let a = c .before .before .before .before .before .args in refusalOn (Ask (Write Marks (length (a .out .now)))) (a .journal .now) ≡ 0
 none c = sym (c .before .marks-refusal .ensures) ∙ c .if1 .left
 
 print-marks-requires : tie.Need-print-marks-requires

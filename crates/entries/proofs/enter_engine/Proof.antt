@@ -1,10 +1,10 @@
--- `enter_engine` meets its contract. Assumes nothing.
+-- `enter_engine` meets its contract.
 use Rattle.reference.specs.Call.{engineEntry}
 use Rattle.scan.proofs.Whole.{tells}
 use borrow.Author.Needs.{needs}
-use Rattle.calls.proofs.Entered.{enterable, entered}
-use Rattle.calls.proofs.enter_engine.Statement.{statement}
-use Rattle.calls.proofs.enter_engine.Tie as tie
+use Rattle.entries.proofs.Entered.{enterable, entered}
+use Rattle.entries.proofs.enter_engine.Statement.{statement}
+use Rattle.entries.proofs.enter_engine.Tie as tie
 
 scan-journal-requires : tie.Need-scan-journal-requires
 scan-journal-requires c κs = search needs

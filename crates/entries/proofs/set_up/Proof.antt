@@ -1,12 +1,13 @@
--- `set_up` meets its contract. Assumes nothing.
+-- `set_up` meets its contract.
 use mathlib.Core.Path.{_≡_, sym, _∙_}
 use Rattle.progress.specs.State.{shown}
 use Rattle.reference.specs.Call.{SetUp}
 use Rattle.reference.specs.Answers.{refusalOn}
 use borrow.Author.Needs.{needs}
-use Rattle.calls.proofs.Promises.{refused, setup-ready, setup-writable, setup-done}
-use Rattle.calls.proofs.set_up.Statement.{statement}
-use Rattle.calls.proofs.set_up.Tie as tie
+use Rattle.reference.proofs.Promises.{refused}
+use Rattle.entries.proofs.SetUp.{setup-ready, setup-writable, setup-done}
+use Rattle.entries.proofs.set_up.Statement.{statement}
+use Rattle.entries.proofs.set_up.Tie as tie
 
 setup-refusal-requires : tie.Need-setup-refusal-requires
 setup-refusal-requires c κs = search needs

@@ -1,0 +1,59 @@
+// The public calls that only read the journal: status, and the marks written into a lent output. None asks anything of its arguments or of what is lent to it. Each promises its whole answer
+// (its value, which pins the case, and what it tells in the specification's numbers, `outcome`) and every byte of each buffer that it may write, refused or not;
+// but for `marks`, of which see there.
+ghost use mathlib.Core.Path.{_≡_};
+ghost use lib.ListN.{length};
+ghost use denote.Ref.{ptr};
+ghost use Rattle.reference.specs.Call.{Marks, ReadStatus, Write, Ask};
+ghost use Rattle.reference.specs.Answers.{refusalOn, answer, outcomeOf, outcome, outAfter, outPart, outputAnswer};
+use printing::print_marks;
+use reference::Answer;
+use reference::OutputAnswer;
+use refusals::marks_refusal;
+use refusals::status_refusal;
+use scan::scan_journal;
+use verdicts::status::status_of;
+
+// Status.
+pub fn read_status(journal: &[u8]) -> Answer
+    ensures { λ r. ⌜ r ≡ answer (Ask ReadStatus) (now (journal .entry)) ⌝ }
+    ensures { λ r. ⌜ outcomeOf r ≡ outcome (Ask ReadStatus) (now (journal .entry)) ⌝ }
+{
+    let scanned = scan_journal(journal);
+    let number = status_refusal(journal, scanned);
+    if number != 0 {
+        return Answer::Refused(number);
+    }
+    Answer::Accepted(status_of(scanned.progress))
+}
+
+// Marks, at the front of the output.
+pub fn write_marks(journal: &[u8], out: &mut [u8]) -> OutputAnswer
+    ensures { λ r. ⌜ r ≡ outputAnswer Marks (now (journal .entry)) (now (out .entry)) ⌝ }
+    ensures { λ _. ⌜ now (out .exit) ≡ outAfter Marks (now (journal .entry)) (now (out .entry)) ⌝ }
+{
+    let scanned = scan_journal(journal);
+    let refusal = marks_refusal(journal, scanned, out.len());
+    if refusal != 0 {
+        return OutputAnswer { refusal, length: 0 };
+    }
+    let engines = scanned.progress.engines;
+    print_marks(engines, 1024, out);
+    OutputAnswer {
+        refusal: 0,
+        length: 2 * engines.count,
+    }
+}
+
+// Marks, with just the written part of the output handed back, an empty one where the call is refused. It promises the part's bytes, where the part starts and the
+// refusal; of the rest of an output that the part keeps lent no contract can speak. `write_marks`, which does the work, promises every byte.
+pub fn marks<'a>(journal: &[u8], out: &'a mut [u8], refusal: &mut u8) -> &'a mut [u8]
+    ensures { λ r. ⌜ now r ≡ outPart Marks (now (journal .entry)) (now (out .entry)) ⌝ }
+    ensures { λ r. ⌜ ptr r ≡ ptr (out .entry) ⌝ }
+    ensures { λ _. ⌜ now (refusal .exit) ≡ refusalOn (Ask (Write Marks (length (now (out .entry))))) (now (journal .entry)) ⌝ }
+{
+    let written = write_marks(journal, out);
+    *refusal = written.refusal;
+    let end = written.length;
+    &mut out[..end]
+}
