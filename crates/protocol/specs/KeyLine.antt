@@ -8,7 +8,7 @@ use lib.Dec.{ltb, eqb}
 use lib.ListN.{length, getD, take, drop}
 use Rattle.buffers.specs.Text.{byte}
 use Rattle.year.specs.declared.Setup.{Setup}
-use Rattle.reference.specs.Call.{EnterEngine, EnterChange, Marks, Write, Call, SetUp, Enter, Ask}
+use Rattle.reference.specs.Call.{Entry, EnterEngine, EnterChange, Marks, Write, Call, SetUp, Enter, Ask}
 use Rattle.reference.specs.declared.Change.{Change}
 use Rattle.reference.specs.declared.Change.the-variants.{Amend, BeginPeriod, Declare}
 use Rattle.protocol.specs.declared.Number.{Number}
@@ -48,9 +48,8 @@ setupFrom vs =
     }
 
 -- "E: engine number, its HC+NOx readings, as many CO readings."
-abbrev pub engineFrom : List ℕ → Call
-engineFrom vs =
-    Enter (EnterEngine (getD vs 0 0) (record { hcnox = take (length vs / 2) (drop 1 vs); co = drop (length vs / 2) (drop 1 vs) }))
+abbrev pub engineFrom : List ℕ → Entry
+engineFrom vs = EnterEngine (getD vs 0 0) (record { hcnox = take (length vs / 2) (drop 1 vs); co = drop (length vs / 2) (drop 1 vs) })
 
 -- "A: two standards."
 abbrev pub amendmentFrom : List ℕ → Change
@@ -72,7 +71,7 @@ ofPairs vs call = cond (eqb (length vs % 2) 1) (some call) none
 unfoldable pub callOf : ℕ → List ℕ → Option Call
 callOf letter vs =
     cond (eqb letter (byte "S")) (ofCount 8 vs (SetUp (setupFrom vs)))
-    (cond (eqb letter (byte "E")) (ofPairs vs (engineFrom vs))
+    (cond (eqb letter (byte "E")) (ofPairs vs (Enter (engineFrom vs)))
     (cond (eqb letter (byte "A")) (changeOf 2 vs (amendmentFrom vs))
     (cond (eqb letter (byte "P")) (changeOf 0 vs BeginPeriod)
     (cond (eqb letter (byte "X")) (changeOf 0 vs Declare)

@@ -1,24 +1,31 @@
 // From a letter and its numbers to a request: the second step, which sees neither the line nor a journal.
 ghost use mathlib.Core.Path.{_≡_};
-ghost use mathlib.Core.Bool.{cond};
-ghost use lib.Dec.{eqb};
 ghost use lib.ListN.{length};
-ghost use Rattle.protocol.specs.KeyLine.{setupFrom, engineFrom, amendmentFrom, ofCount, ofPairs, callOf};
-ghost use Rattle.reference.specs.Call.{SetUp};
-ghost use Rattle.requests.specs.Request.{Asks};
-ghost use Rattle.requests.specs.declared.request.Request.the-variants.{Refuse};
+ghost use Rattle.protocol.specs.KeyLine.{setupFrom, engineFrom, amendmentFrom, ofCount, changeOf, ofPairs, callOf};
+ghost use Rattle.reference.specs.Call.{SetUp, Enter};
+ghost use Rattle.requests.specs.Request.{callFor, EnoughForCall, Requests};
 use reference::Change;
 use rounding::Factor;
 use year::Factors;
 use year::Pair;
 use year::Setup;
 
-// The call that a line asks for. An engine's number and readings stay where they are, in the line's numbers.
-pub enum Request {
+// The entry that a line asks for. An engine's number and readings stay where they are, in the line's numbers.
+pub enum EntryRequest {
+    Engine,
+    Change(Change),
+}
+
+// The call that it asks for.
+pub enum CallRequest {
     SetUp(Setup),
-    EnterEngine,
-    Enter(Change),
+    Enter(EntryRequest),
     WriteMarks,
+}
+
+// What a line comes to: a call, or its refusal.
+pub enum Request {
+    Make(CallRequest),
     Refuse(u8),
 }
 
@@ -48,49 +55,51 @@ fn setup_from(values: &[u32]) -> Setup
 }
 
 fn setup_request(values: &[u32]) -> Request
-    ensures { λ r. ⌜ Asks r (now (values .entry)) (ofCount 8 (now (values .entry)) (SetUp (setupFrom (now (values .entry))))) ⌝ }
+    ensures { λ r. ⌜ Requests r (now (values .entry)) (ofCount 8 (now (values .entry)) (SetUp (setupFrom (now (values .entry))))) ⌝ }
 {
     if values.len() != 8 {
         return Request::Refuse(2);
     }
-    Request::SetUp(setup_from(values))
+    Request::Make(CallRequest::SetUp(setup_from(values)))
 }
 
 // "An odd count of readings is refused by 2": with the engine's number, an even count of numbers. How many readings there are is for the call to judge.
 fn engine_request(values: &[u32]) -> Request
-    ensures { λ r. ⌜ Asks r (now (values .entry)) (ofPairs (now (values .entry)) (engineFrom (now (values .entry)))) ⌝ }
+    ensures { λ r. ⌜ Requests r (now (values .entry)) (ofPairs (now (values .entry)) (Enter (engineFrom (now (values .entry))))) ⌝ }
 {
     if values.len() % 2 != 1 {
         return Request::Refuse(2);
     }
-    Request::EnterEngine
+    Request::Make(CallRequest::Enter(EntryRequest::Engine))
 }
 
 fn amendment_request(values: &[u32]) -> Request
-    ensures { λ r. ⌜ Asks r (now (values .entry)) (ofCount 2 (now (values .entry)) (amendmentFrom (now (values .entry)))) ⌝ }
+    ensures { λ r. ⌜ Requests r (now (values .entry)) (changeOf 2 (now (values .entry)) (amendmentFrom (now (values .entry)))) ⌝ }
 {
     if values.len() != 2 {
         return Request::Refuse(2);
     }
-    Request::Enter(Change::Amend(Pair {
+    let standards = Pair {
         hcnox: values[0],
         co: values[1],
-    }))
+    };
+    Request::Make(CallRequest::Enter(EntryRequest::Change(Change::Amend(standards))))
 }
 
-// A request that takes no numbers.
-fn bare_request(bare: Request, values: &[u32]) -> Request
-    ensures { λ r. ⌜ r ≡ cond (eqb (length (now (values .entry))) 0) bare (Refuse 2) ⌝ }
+// A call that takes no numbers.
+fn bare_request(call: CallRequest, values: &[u32]) -> Request
+    requires { ⌜ EnoughForCall call (now values) ⌝ }
+    ensures { λ r. ⌜ Requests r (now (values .entry)) (ofCount 0 (now (values .entry)) (callFor call (now (values .entry)))) ⌝ }
 {
     if values.len() != 0 {
         return Request::Refuse(2);
     }
-    bare
+    Request::Make(call)
 }
 
 // What a letter with its numbers asks for.
 pub fn requested(letter: u8, values: &[u32]) -> Request
-    ensures { λ r. ⌜ Asks r (now (values .entry)) (callOf letter (now (values .entry))) ⌝ }
+    ensures { λ r. ⌜ Requests r (now (values .entry)) (callOf letter (now (values .entry))) ⌝ }
 {
     if letter == b'S' {
         return setup_request(values);
@@ -102,13 +111,15 @@ pub fn requested(letter: u8, values: &[u32]) -> Request
         return amendment_request(values);
     }
     if letter == b'P' {
-        return bare_request(Request::Enter(Change::BeginPeriod), values);
+        let period = CallRequest::Enter(EntryRequest::Change(Change::BeginPeriod));
+        return bare_request(period, values);
     }
     if letter == b'X' {
-        return bare_request(Request::Enter(Change::Declare), values);
+        let declaration = CallRequest::Enter(EntryRequest::Change(Change::Declare));
+        return bare_request(declaration, values);
     }
     if letter == b'L' {
-        return bare_request(Request::WriteMarks, values);
+        return bare_request(CallRequest::WriteMarks, values);
     }
     Request::Refuse(2)
 }

@@ -1,11 +1,7 @@
--- `requested` meets its contract. Assumes nothing.
+-- `requested` meets its contract.
 use borrow.Author.Needs.{needs}
-use mathlib.Core.Path.{refl}
-use Rattle.reference.specs.Call as calls
 use Rattle.protocol.specs.KeyLine.{callOf}
-use Rattle.requests.specs.declared.request.Request.the-variants.{Enter, WriteMarks}
-use Rattle.reference.specs.declared.Change.the-variants.{BeginPeriod, Declare}
-use Rattle.requests.proofs.Asking.{bare, other-letter}
+use Rattle.requests.proofs.Asking.{other-letter}
 use Rattle.requests.proofs.request.requested.Statement.{statement}
 use Rattle.requests.proofs.request.requested.Tie as tie
 
@@ -35,27 +31,21 @@ bare-request-requires c κs = search needs
 
 returns-4 : tie.Need-returns-4
 unfolding callOf
-returns-4 c =
-    let vs = c .before .before .before .before .before .before .args .values .now in
-    rw (c .before .if4 .taken, c .bare-request .ensures) (bare vs (calls.Enter calls.BeginPeriod) (Enter BeginPeriod) (record { command = refl; enough = tt }))
+returns-4 c = rw (c .before .if4 .taken) (c .bare-request .ensures)
 
 bare-request-requires-2 : tie.Need-bare-request-requires-2
 bare-request-requires-2 c κs = search needs
 
 returns-5 : tie.Need-returns-5
 unfolding callOf
-returns-5 c =
-    let vs = c .before .before .before .before .before .before .before .args .values .now in
-    rw (c .before .if5 .taken, c .bare-request2 .ensures) (bare vs (calls.Enter calls.Declare) (Enter Declare) (record { command = refl; enough = tt }))
+returns-5 c = rw (c .before .if5 .taken) (c .bare-request2 .ensures)
 
 bare-request-requires-3 : tie.Need-bare-request-requires-3
 bare-request-requires-3 c κs = search needs
 
 returns-6 : tie.Need-returns-6
 unfolding callOf
-returns-6 c =
-    let vs = c .before .before .before .before .before .before .before .before .args .values .now in
-    rw (c .before .if6 .taken, c .bare-request3 .ensures) (bare vs (calls.WriteMarks 80) WriteMarks (record { command = refl; enough = tt }))
+returns-6 c = rw (c .before .if6 .taken) (c .bare-request3 .ensures)
 
 returns-7 : tie.Need-returns-7
 returns-7 c =

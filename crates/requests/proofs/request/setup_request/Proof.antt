@@ -1,4 +1,4 @@
--- `setup_request` meets its contract. Assumes nothing.
+-- `setup_request` meets its contract.
 use borrow.Author.Needs.{needs}
 use mathlib.Core.Path.{ap}
 use Rattle.reference.specs.Call.{SetUp}
