@@ -8,7 +8,7 @@ ghost use Rattle.year.specs.Status.{blank};
 ghost use Rattle.answers.specs.Numbers.{sizeNumber, pollutantNumbers, statusNumbers};
 use cumsum::Interval;
 use cumsum::Mark;
-use printing::mark_byte;
+use figures::marking::mark_byte;
 use reference::Answer;
 use statistics::Deviation;
 use statistics::SampleSize;

@@ -1,5 +1,4 @@
 -- From what is read of a line to the command that it is.
--- Assumes nothing.
 use mathlib.Core.Path.{_≡_, refl, sym, ap, _∙_}
 use mathlib.Core.Bool.{Bool, true, false, true≢false}
 use mathlib.Core.List.{List, [], _∷_}
@@ -11,14 +10,13 @@ use borrow.Author.Tests.{le-ltb, lt-ltb}
 use Rattle.buffers.specs.Bytes.{put}
 use Rattle.buffers.proofs.Lists.{length-put}
 use Rattle.protocol.specs.KeyLine.{Command, Refuse, asked, numbersFrom, callOf, callFrom, commandOf}
-use Rattle.protocol.specs.Reply.{replyTo, journalAfterLine}
+use Rattle.protocol.specs.Reply.{commandReply, commandAfter, replyTo, journalAfterLine}
 use Rattle.requests.specs.declared.numbers.Numbers.{Numbers}
 use Rattle.requests.specs.declared.numbers.Numbers.the-variants.{Count, Refused}
 use Rattle.requests.specs.declared.request.Request.{Request}
 use Rattle.requests.specs.Numbers.{counted, countOf, listed}
-use Rattle.requests.specs.Request.{commandFrom, Asks}
+use Rattle.requests.specs.Request.{commandFor, Requests}
 use Rattle.replies.specs.Replied.{Replied}
-use Rattle.commands.proofs.Made.{Done}
 
 abbrev isCount : Numbers → Bool
 isCount (Count n) = true
@@ -39,8 +37,8 @@ read-none (some vs) numbers number e k = absurd (true≢false (ap isCount (sym e
 read-none none numbers number e k = (refl, ap refusalOf (sym k ∙ e))
 
 -- the command of a line that is done
-pub by-line : (line journal out left after : List ℕ) (r : ℕ) (command : Command) → command ≡ commandOf line → Done command journal out left after r
-    → Replied out (replyTo line journal) after r × (left ≡ journalAfterLine line journal)
+pub by-line : (line journal out left after : List ℕ) (r : ℕ) (command : Command) → command ≡ commandOf line
+    → Replied out (commandReply command journal) after r × (left ≡ commandAfter command journal) → Replied out (replyTo line journal) after r × (left ≡ journalAfterLine line journal)
 unfolding replyTo journalAfterLine
 by-line line journal out left after r command e done = rw e at done
 
@@ -55,8 +53,8 @@ module _ (line : List ℕ) where
     short = rw (le-ltb 64 (length line) few)
 
     pub requested-line : (numbers : Numbers) (count : ℕ) (values : List ℕ) (request : Request) → numbers ≡ counted read → numbers ≡ Count count
-        → take (countOf numbers) values ≡ listed read → Asks request (take count values) (callOf (getD line 0 0) (take count values))
-        → commandFrom request (take count values) ≡ commandOf line
+        → take (countOf numbers) values ≡ listed read → Requests request (take count values) (callOf (getD line 0 0) (take count values))
+        → commandFor request (take count values) ≡ commandOf line
     requested-line numbers count values request e k t asks =
         asks .command ∙ sym (short ∙ ap (λ o. asked (callFrom (getD line 0 0) o)) (read-some read numbers count values e k t))
 
@@ -77,8 +75,8 @@ empty-line [] e = refl
 empty-line (b ∷ bs) e = absurd (omega (arith, e))
 
 -- a reply and the journal after it, in the words of the promise
-pub told : {bytes wanted out left after : List ℕ} {r : ℕ} → length out ≡ 96 → Replied out bytes after r × (left ≡ wanted)
+pub promised : {bytes wanted out left after : List ℕ} {r : ℕ} → length out ≡ 96 → Replied out bytes after r × (left ≡ wanted)
     → (r ≡ length bytes) × ((after ≡ put out 0 bytes) × ((left ≡ wanted) × ((r < 96) × (length after ≡ 96))))
-told {bytes} {wanted} {out} room (w, j) =
+promised {bytes} {wanted} {out} room (w, j) =
     let size = ap length (w .out) ∙ length-put out 0 bytes (omega (arith, room, w .size, w .fits)) in
     (w .size, (w .out, (j, (w .fits, size ∙ room))))

@@ -1,14 +1,12 @@
 // The key line on a lent journal: the call that a line asks for is made, and its reply is written. Nothing is asked of what is lent, and every byte of it is
 // promised.
-mod calling;
-
 ghost use mathlib.Core.Path.{_≡_};
 ghost use Prim.Native.Nat.{_≤_, _<_};
 ghost use lib.ListN.{length};
 ghost use Rattle.buffers.specs.Bytes.{put};
 ghost use Rattle.replies.specs.Replied.{Replied};
 ghost use Rattle.protocol.specs.Reply.{replyTo, journalAfterLine};
-use crate::calling::make;
+use dispatch::carry_out;
 use replies::write_refusal;
 use requests::numbers::Numbers;
 use requests::numbers::read_numbers;
@@ -24,7 +22,7 @@ fn reply_short(journal: &mut [u8], line: &[u8], out: &mut [u8]) -> usize
     match read_numbers(line, &mut values) {
         Numbers::Count(count) => {
             let request = requested(line[0], &values[..count]);
-            make(journal, request, &values[..count], out)
+            carry_out(journal, request, &values[..count], out)
         }
         Numbers::Refused(number) => write_refusal(number, out),
     }

@@ -11,7 +11,6 @@ ghost use Rattle.engines.specs.Engines.{tested, ReworkInRange};
 ghost use Rattle.printing.specs.Columns.{MarkedTo};
 ghost use Rattle.printing.specs.Ranges.{MarksInRange};
 use cumsum::Interval;
-use cumsum::Mark;
 use engines::Engines;
 use estimates::summing::add_result;
 use estimates::summing::no_sums;
@@ -19,18 +18,7 @@ use estimates::variance::deviation_of;
 use figures::limits::action_limit;
 use figures::limits::next_cumsum;
 use figures::marking::compare;
-
-// How a mark is written.
-pub fn mark_byte(m: Mark) -> u8
-    ensures { λ r. ⌜ r ≡ markByte m ⌝ }
-{
-    match m {
-        Mark::Unmarked => b'-',
-        Mark::Over => b'O',
-        Mark::Under => b'U',
-        Mark::Undecided => b'?',
-    }
-}
+use figures::marking::mark_byte;
 
 // The marks of one pollutant's engines as bytes, at any resolution. Only the sums and C go on from engine to engine: a mark needs no more, and all figures would
 // be copied by value at each engine.

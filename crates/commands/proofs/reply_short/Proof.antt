@@ -1,4 +1,4 @@
--- `reply_short` meets its contract. Assumes nothing.
+-- `reply_short` meets its contract.
 use mathlib.Core.Path.{refl, sym}
 use Prim.Native.Nat.{ℕ, _≤_}
 use native.Mathlib.Omega.{arith}
@@ -44,11 +44,11 @@ requested-requires c κs = search needs
 array-share-prefix-values-2 : tie.Need-array-share-prefix-values-2
 array-share-prefix-values-2 c = few (c .before .before .before .before .before)
 
-slice-aggregate-make : tie.Need-slice-aggregate-make
-slice-aggregate-make c = let read = c .before .before .before .before .before .before in sym (length-take-le (count read) _ (few read))
+slice-aggregate-carry-out : tie.Need-slice-aggregate-carry-out
+slice-aggregate-carry-out c = let read = c .before .before .before .before .before .before in sym (length-take-le (count read) _ (few read))
 
-make-requires : tie.Need-make-requires
-make-requires c κs = search needs
+carry-out-requires : tie.Need-carry-out-requires
+carry-out-requires c κs = search needs
 
 enum-known-number : tie.Need-enum-known-number
 enum-known-number c = search needs
@@ -70,7 +70,7 @@ returns c =
     let start = read .before .before .before .before .before .before .before .before in
     let e = called read .read-numbers .ensures in
     let is = requested-line (start .args .line .now) (start .pre .1) _ (count read) _ _ (e .0) (read .count .given .1) (e .1 .0) (asked .requested .ensures) in
-    by-line (start .args .line .now) (start .args .journal .now) (start .args .out .now) _ _ _ _ is (made .make .ensures)
+    by-line (start .args .line .now) (start .args .journal .now) (start .args .out .now) _ _ _ _ is (made .carry-out .ensures)
 
 same-length-3 : tie.Need-same-length-3
 same-length-3 c = search needs
@@ -95,8 +95,8 @@ reply-short-spec =
     slice-aggregate-requested
     requested-requires
     array-share-prefix-values-2
-    slice-aggregate-make
-    make-requires
+    slice-aggregate-carry-out
+    carry-out-requires
     enum-known-number
     write-refusal-requires
     same-length

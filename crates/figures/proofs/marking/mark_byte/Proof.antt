@@ -1,7 +1,7 @@
--- `mark_byte` meets its contract: one line for each mark. Assumes nothing.
+-- `mark_byte` meets its contract: one line for each mark.
 use borrow.Author.Needs.{needs}
-use Rattle.printing.proofs.mark_byte.Statement.{statement}
-use Rattle.printing.proofs.mark_byte.Tie as tie
+use Rattle.figures.proofs.marking.mark_byte.Statement.{statement}
+use Rattle.figures.proofs.marking.mark_byte.Tie as tie
 
 enum-told : tie.Need-enum-told
 enum-told c = search needs

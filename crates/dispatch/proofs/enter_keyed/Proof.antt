@@ -1,8 +1,8 @@
--- `enter` meets its contract. Assumes nothing.
+-- `enter_keyed` meets its contract.
 use borrow.Author.Needs.{needs}
-use Rattle.commands.proofs.Parts.{engine-parts}
-use Rattle.commands.proofs.calling.enter.Statement.{statement}
-use Rattle.commands.proofs.calling.enter.Tie as tie
+use Rattle.dispatch.proofs.Parts.{engine-parts}
+use Rattle.dispatch.proofs.enter_keyed.Statement.{statement}
+use Rattle.dispatch.proofs.enter_keyed.Tie as tie
 
 add-middle : tie.Need-add-middle
 add-middle c = search needs
@@ -43,8 +43,8 @@ returns c =
     let e = c .before .before .enter-engine .ensures in
     rw (← engine-parts (a .values .now)) (e .0, e .1 .1)
 
-pub enter-spec : {M : Type 1} → statement M
-enter-spec =
+pub enter-keyed-spec : {M : Type 1} → statement M
+enter-keyed-spec =
     tie.close
     (tie.spec
     add-middle

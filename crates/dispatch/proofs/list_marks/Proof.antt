@@ -1,14 +1,14 @@
--- `list_marks` meets its contract. Assumes nothing.
+-- `list_marks` meets its contract.
 use mathlib.Core.Path.{_≡_, sym, ap, _∙_}
 use lib.ListN.{length, take, drop}
 use Rattle.journal.specs.Read.{readJournal}
-use Rattle.reference.specs.Call.{WriteMarks}
-use Rattle.reference.specs.Answers.{refusalOn, markBytes}
-use Rattle.reference.specs.declared.MarksAnswer.{MarksAnswer}
-use Rattle.commands.proofs.Listing.{refused-reply, few-marks, back-room, count-is, marks-reply}
+use Rattle.reference.specs.Call.{Marks, Write, Ask}
+use Rattle.reference.specs.Answers.{refusalOn, outBytes}
+use Rattle.reference.specs.declared.OutputAnswer.{OutputAnswer}
+use Rattle.dispatch.proofs.Listing.{refused-reply, few-marks, back-room, count-is, marks-reply}
 use borrow.Author.Needs.{needs}
-use Rattle.commands.proofs.calling.list_marks.Statement.{statement}
-use Rattle.commands.proofs.calling.list_marks.Tie as tie
+use Rattle.dispatch.proofs.list_marks.Statement.{statement}
+use Rattle.dispatch.proofs.list_marks.Tie as tie
 
 sub-write-marks : tie.Need-sub-write-marks
 sub-write-marks c = search needs
@@ -34,7 +34,7 @@ returns c =
     let refused = replied .before .before in
     let w = refused .before .before .before .before .write-marks in
     let a = refused .before .before .before .before .before .before .before .before .args in
-    let told = ap (λ (x : MarksAnswer). x .refusal) (w .ensures .0) in
+    let told = ap (λ (x : OutputAnswer). x .refusal) (w .ensures .0) in
     let said = replied .write-refusal .ensures in
     refused-reply (a .journal .now) (a .out .now) (refused .before .before .before .before .before .before .before .before .pre) (λ none. refused .if1 .taken (told ∙ none)) _ _
     (rw (w .ensures .1, told) at said)
@@ -47,11 +47,11 @@ module _ (fine : tie.Else1) where
   abbrev called : tie.After-write-marks
   called = fine .before .before .before .before
 
-  none : refusalOn (WriteMarks (length (take 80 (drop 3 (start .args .out .now))))) (start .args .journal .now) ≡ 0
-  none = sym (ap (λ (x : MarksAnswer). x .refusal) (called .write-marks .ensures .0)) ∙ fine .if1 .left
+  none : refusalOn (Ask (Write Marks (length (take 80 (drop 3 (start .args .out .now)))))) (start .args .journal .now) ≡ 0
+  none = sym (ap (λ (x : OutputAnswer). x .refusal) (called .write-marks .ensures .0)) ∙ fine .if1 .left
 
-  count : called .write-marks .result .length ≡ length (markBytes (readJournal (start .args .journal .now)))
-  count = ap (λ (x : MarksAnswer). x .length) (called .write-marks .ensures .0) ∙ count-is (start .args .journal .now) (start .args .out .now) (start .pre) none
+  count : called .write-marks .result .length ≡ length (outBytes Marks (readJournal (start .args .journal .now)))
+  count = ap (λ (x : OutputAnswer). x .length) (called .write-marks .ensures .0) ∙ count-is (start .args .journal .now) (start .args .out .now) (start .pre) none
 
 write-marks-front-requires : tie.Need-write-marks-front-requires
 write-marks-front-requires c κs =
