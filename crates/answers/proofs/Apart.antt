@@ -1,4 +1,4 @@
--- A sample size in tenths is at least 10, so 0 tells that there is none. Assumes nothing.
+-- A sample size in tenths is at least 10, so 0 tells that there is none.
 use mathlib.Core.Path.{_≡_, refl, sym, ap}
 use mathlib.Core.Bool.{Bool, true, false}
 use mathlib.Core.List.{[], _∷_}
@@ -12,7 +12,7 @@ use Rattle.statistics.specs.declared.SampleSize.the-variants.{Absent}
 use Rattle.statistics.specs.Spread.{total, variation}
 use Rattle.statistics.specs.SampleSize.{sampleSize}
 use Rattle.estimates.proofs.Sizes.{absent-few, absent-even, in-tenths}
-use Rattle.answers.specs.Numbers.{sizeNumber, NoneApart}
+use Rattle.exports.specs.Numbers.{sizeNumber, NoneApart}
 
 module _ (n s t v : ℕ) (none : sizeNumber (sampleSize n s t v) ≡ 0) where
   enough : 2 ≤ n → (even : Bool) → eqb s (n * t) ≡ even → sampleSize n s t v ≡ Absent

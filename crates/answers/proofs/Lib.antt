@@ -1,3 +1,2 @@
 pub mod Apart
-pub mod Cases
 mod Numbers

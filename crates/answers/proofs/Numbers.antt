@@ -1,4 +1,4 @@
--- The numbers of a status, written one part after another. Assumes nothing.
+-- The numbers of a status, written one part after another.
 use mathlib.Core.Path.{_≡_, refl, ap, _∙_}
 use mathlib.Core.List.{List, [], _∷_, _++_}
 use Prim.Native.Nat.{ℕ, _+_, _-_, _≤_}
@@ -10,7 +10,7 @@ use Rattle.buffers.specs.Bytes.{put}
 use Rattle.buffers.proofs.Lists.{put-part, put-put, put-front, length-put}
 use Rattle.year.specs.declared.Figures.{Figures}
 use Rattle.year.specs.declared.Status.{Status}
-use Rattle.answers.specs.Numbers.{pollutantNumbers, statusNumbers}
+use Rattle.exports.specs.Numbers.{pollutantNumbers, statusNumbers}
 
 pub length-nine : (f : Figures) → length (pollutantNumbers f) ≡ 9
 unfolding pollutantNumbers

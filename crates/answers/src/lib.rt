@@ -3,9 +3,9 @@ ghost use mathlib.Core.Path.{_≡_};
 ghost use Prim.Native.Nat.{_≤_};
 ghost use lib.ListN.{length};
 ghost use Rattle.buffers.specs.Bytes.{put};
-ghost use Rattle.reference.specs.Answers.{answerOf, noStatus};
+ghost use Rattle.reference.specs.Answers.{outcomeOf, noStatus};
 ghost use Rattle.year.specs.Status.{blank};
-ghost use Rattle.answers.specs.Numbers.{sizeNumber, pollutantNumbers, statusNumbers};
+ghost use Rattle.exports.specs.Numbers.{sizeNumber, pollutantNumbers, statusNumbers};
 use cumsum::Interval;
 use cumsum::Mark;
 use figures::marking::mark_byte;
@@ -25,8 +25,8 @@ fn size_number(size: SampleSize) -> u64
     }
 }
 
-// Writes the nine numbers of one pollutant. (An enum that is a field is copied before it is passed on: only a local is covered.)
-fn write_pollutant(part: &mut [u64], f: Figures)
+// Puts the nine numbers of one pollutant. (An enum that is a field is copied before it is passed on: only a local is covered.)
+fn put_pollutant(part: &mut [u64], f: Figures)
     requires { ⌜ length (now part) ≡ 9 ⌝ }
     ensures { λ _. ⌜ now (part .exit) ≡ pollutantNumbers f ⌝ }
 {
@@ -43,13 +43,13 @@ fn write_pollutant(part: &mut [u64], f: Figures)
     part[8] = mark_byte(mark) as u64;
 }
 
-// Writes the twenty numbers of a status at the front of a lent slice. The rest of the slice stays.
-fn write_status(numbers: &mut [u64], s: Status)
+// Puts the twenty numbers of a status at the front of a lent slice. The rest of the slice stays.
+fn put_status(numbers: &mut [u64], s: Status)
     requires { ⌜ 20 ≤ length (now numbers) ⌝ }
     ensures { λ _. ⌜ now (numbers .exit) ≡ put (now (numbers .entry)) 0 (statusNumbers s) ⌝ }
 {
-    write_pollutant(&mut numbers[2..11], s.hcnox);
-    write_pollutant(&mut numbers[11..20], s.co);
+    put_pollutant(&mut numbers[2..11], s.hcnox);
+    put_pollutant(&mut numbers[11..20], s.co);
     numbers[0] = s.n as u64;
     numbers[1] = s.verdict as u64;
 }
@@ -83,19 +83,19 @@ fn no_status() -> Status
     }
 }
 
-// Writes the numbers of an answer at the front of a lent slice, and answers its refusal, 0 for none.
-pub fn write_answer(numbers: &mut [u64], answer: Answer) -> u8
+// Puts the numbers of an answer at the front of a lent slice, and answers its refusal, 0 for none.
+pub fn put_answer(numbers: &mut [u64], answer: Answer) -> u8
     requires { ⌜ 20 ≤ length (now numbers) ⌝ }
-    ensures { λ r. ⌜ r ≡ answerOf answer .refusal ⌝ }
-    ensures { λ _. ⌜ now (numbers .exit) ≡ put (now (numbers .entry)) 0 (statusNumbers (answerOf answer .status)) ⌝ }
+    ensures { λ r. ⌜ r ≡ outcomeOf answer .refusal ⌝ }
+    ensures { λ _. ⌜ now (numbers .exit) ≡ put (now (numbers .entry)) 0 (statusNumbers (outcomeOf answer .status)) ⌝ }
 {
     match answer {
         Answer::Accepted(s) => {
-            write_status(numbers, s);
+            put_status(numbers, s);
             0
         }
         Answer::Refused(number) => {
-            write_status(numbers, no_status());
+            put_status(numbers, no_status());
             number
         }
     }

@@ -1,21 +1,23 @@
 -- What a key does to all that is lent for it, in the words of document 01's "Key line" as the input comes (protocol, specs/Console).
--- Assumes nothing.
 use mathlib.Core.Path.{_≡_}
 use mathlib.Core.Bool.{cond}
-use mathlib.Core.List.{List}
+use mathlib.Core.List.{List, [], _∷_}
 use Prim.Native.Nat.{ℕ}
-use lib.Dec.{eqb}
+use lib.Dec.{eqb, ltb}
 use lib.ListN.{length}
 use Rattle.io.specs.Counts.{Counts}
 use Rattle.buffers.specs.Bytes.{put}
 use Rattle.buffers.specs.Text.{byte}
-use Rattle.requests.specs.Buffer.{bufferWith}
 
 -- bytes to be printed stand at the front of the output, and are so many; the output has room for them
 pub record Shown (bytes before after : List ℕ) (count : ℕ) : Type 0 where
   pub out : after ≡ put before 0 bytes
   pub size : count ≡ length bytes
   pub fits : Counts count after
+
+-- the lent buffer with one byte after those held, of which there are so many: 65 at most
+abbrev pub bufferWith : List ℕ → ℕ → ℕ → List ℕ
+bufferWith buffer count b = cond (ltb count 65) (put buffer count (b ∷ [])) buffer
 
 -- the buffer of the line after a byte of the input: a newline leaves it, as no byte is held then
 abbrev pub bufferAt : ℕ → List ℕ → ℕ → List ℕ

@@ -1,4 +1,6 @@
 // The input as it comes, byte by byte: a line is held until its newline, and then answered.
+mod holding;
+
 ghost use mathlib.Core.Path.{_≡_};
 ghost use mathlib.Core.List.{[], _∷_, _++_};
 ghost use Prim.Native.Nat.{min};
@@ -7,8 +9,8 @@ ghost use Rattle.buffers.specs.Text.{byte};
 ghost use Rattle.protocol.specs.Console.{shownAt, heldAt, journalAt, shownAtEnd, journalAtEnd};
 ghost use Rattle.protocol.specs.Reply.{replyTo, journalAfterLine};
 ghost use Rattle.console.specs.Keys.{Shown, bufferAt};
+use crate::holding::hold;
 use commands::reply;
-use requests::holding::hold;
 
 // Of the bytes said to be held, those that the buffer has: nothing is asked of their number.
 fn least(a: usize, b: usize) -> usize

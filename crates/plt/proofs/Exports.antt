@@ -1,24 +1,19 @@
--- What an exported function leaves, where a lent slice is too short and where it is not. Assumes nothing.
+-- What an exported function leaves, where a lent slice is too short and where it is not.
 use mathlib.Core.Path.{_≡_, refl, ap, _∙_}
 use mathlib.Core.List.{List}
 use Prim.Native.Nat.{ℕ, _+_, _≤_, _<_}
 use native.Mathlib.Omega.{arith}
-use lib.ListN.{length, take, drop}
-use lib.Seq.{take-at}
+use lib.ListN.{length, take}
 use borrow.Author.Tests.{lt-ltb, le-ltb}
 use Rattle.buffers.specs.Bytes.{put, zeros}
+use Rattle.buffers.proofs.Lists.{take-put}
 use Rattle.reference.specs.Call.{Call}
-use Rattle.reference.specs.Answers.{answerOf, told, journalAfter}
+use Rattle.reference.specs.Answers.{outcomeOf, outcome, journalAfter}
 use Rattle.reference.specs.declared.Answer.{Answer}
 use Rattle.protocol.specs.Reply.{replyTo, journalAfterLine}
 use Rattle.text.specs.Written.{Written}
-use Rattle.answers.specs.Numbers.{statusNumbers}
-use Rattle.plt.specs.Exports.{replyCount, replyLeft, lineLeft, refusalTold, figuresLeft, journalLeft}
-
--- what was put at the front of a list is its front
-front-put : (xs bytes : List ℕ) → take (length bytes) (put xs 0 bytes) ≡ bytes
-unfolding put
-front-put xs bytes = take-at bytes (drop (0 + length bytes) xs) (length bytes) refl
+use Rattle.exports.specs.Numbers.{statusNumbers}
+use Rattle.exports.specs.Exports.{replyCount, replyLeft, lineLeft, refusalGiven, figuresLeft, journalLeft}
 
 module _ (line journal out : List ℕ) where
   pub no-reply : length out < 96
@@ -32,21 +27,21 @@ module _ (line journal out : List ℕ) where
       → (end ≡ replyCount line journal out) × ((after ≡ replyLeft line journal out) × ((left ≡ lineLeft line journal out) × (end < 96)))
   unfolding replyCount replyLeft lineLeft
   replied text count after end left h c t j few w =
-      let front : take count text ≡ replyTo line journal = rw (c, t) (front-put (zeros 96) (replyTo line journal)) in
+      let front : take count text ≡ replyTo line journal = rw (c, t) (take-put (zeros 96) (replyTo line journal)) in
       let size : end ≡ length (replyTo line journal) = omega (arith, w .position, ap length front) in
       rw (le-ltb (length out) 96 h) (size, (w .out ∙ ap (put out 0) front, (j, omega arith)))
 
 module _ (call : Call) (journal figures : List ℕ) where
-  pub not-told : length figures < 20
-      → (255 ≡ refusalTold call journal figures) × ((figures ≡ figuresLeft call journal figures) × (journal ≡ journalLeft call journal figures))
-  unfolding refusalTold figuresLeft journalLeft
-  not-told h = rw (lt-ltb (length figures) 20 h) (refl, (refl, refl))
+  pub not-given : length figures < 20
+      → (255 ≡ refusalGiven call journal figures) × ((figures ≡ figuresLeft call journal figures) × (journal ≡ journalLeft call journal figures))
+  unfolding refusalGiven figuresLeft journalLeft
+  not-given h = rw (lt-ltb (length figures) 20 h) (refl, (refl, refl))
 
-  pub is-told : (a : Answer) (after : List ℕ) (number : ℕ) → 20 ≤ length figures → answerOf a ≡ told call journal
-      → (number ≡ answerOf a .refusal) × (after ≡ put figures 0 (statusNumbers (answerOf a .status)))
-      → (number ≡ refusalTold call journal figures) × (after ≡ figuresLeft call journal figures)
-  unfolding refusalTold figuresLeft
-  is-told a after number h t w = rw (le-ltb (length figures) 20 h, ← t) w
+  pub is-given : (a : Answer) (after : List ℕ) (number : ℕ) → 20 ≤ length figures → outcomeOf a ≡ outcome call journal
+      → (number ≡ outcomeOf a .refusal) × (after ≡ put figures 0 (statusNumbers (outcomeOf a .status)))
+      → (number ≡ refusalGiven call journal figures) × (after ≡ figuresLeft call journal figures)
+  unfolding refusalGiven figuresLeft
+  is-given a after number h t w = rw (le-ltb (length figures) 20 h, ← t) w
 
   pub is-left : (left : List ℕ) → 20 ≤ length figures → left ≡ journalAfter call journal → left ≡ journalLeft call journal figures
   unfolding journalLeft

@@ -1,4 +1,4 @@
--- `no_status` meets its contract. Assumes nothing.
+-- `no_status` meets its contract.
 use borrow.Author.Needs.{needs}
 use Rattle.answers.proofs.no_status.Statement.{statement}
 use Rattle.answers.proofs.no_status.Tie as tie

@@ -1,4 +1,4 @@
--- `plt_command` meets its contract. Assumes nothing.
+-- `plt_command` meets its contract.
 use mathlib.Core.Path.{sym}
 use native.Mathlib.Omega.{arith}
 use lib.Seq.{length-take-le}

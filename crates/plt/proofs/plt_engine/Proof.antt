@@ -1,17 +1,17 @@
--- `plt_engine` meets its contract. Assumes nothing.
-use Rattle.plt.proofs.Exports.{not-told, is-told, is-left}
+-- `plt_engine` meets its contract.
+use Rattle.plt.proofs.Exports.{not-given, is-given, is-left}
 use borrow.Author.Needs.{needs}
 use Rattle.plt.proofs.plt_engine.Statement.{statement}
 use Rattle.plt.proofs.plt_engine.Tie as tie
 
 returns : tie.Need-returns
-returns c = let a = c .before .before .before .before .before .args in not-told _ (a .journal .now) (a .figures .now) (c .if1 .taken)
+returns c = let a = c .before .before .before .before .before .args in not-given _ (a .journal .now) (a .figures .now) (c .if1 .taken)
 
 enter-engine-requires : tie.Need-enter-engine-requires
 enter-engine-requires c κs = search needs
 
-write-answer-requires : tie.Need-write-answer-requires
-write-answer-requires c κs = search needs
+put-answer-requires : tie.Need-put-answer-requires
+put-answer-requires c κs = search needs
 
 same-length : tie.Need-same-length
 same-length c = search needs
@@ -21,13 +21,13 @@ same-length-2 c = search needs
 
 returns-2 : tie.Need-returns-2
 returns-2 c =
-    let w = c .before .before .write-answer in
+    let w = c .before .before .put-answer in
     let made = c .before .before .before .before .before in
     let else = made .before .before .before in
     let a = else .before .before .before .before .before .args in
     let e = made .enter-engine .ensures in
-    let told = is-told _ (a .journal .now) (a .figures .now) (made .enter-engine .result) _ _ (else .if1 .left) (e .1 .0) (w .ensures) in
-    (told .0, (told .1, is-left _ (a .journal .now) (a .figures .now) _ (else .if1 .left) (e .1 .1)))
+    let given = is-given _ (a .journal .now) (a .figures .now) (made .enter-engine .result) _ _ (else .if1 .left) (e .1 .0) (w .ensures) in
+    (given .0, (given .1, is-left _ (a .journal .now) (a .figures .now) _ (else .if1 .left) (e .1 .1)))
 
 pub plt-engine-spec : {M : Type 1} → statement M
 plt-engine-spec =
@@ -35,7 +35,7 @@ plt-engine-spec =
     (tie.spec
     returns
     enter-engine-requires
-    write-answer-requires
+    put-answer-requires
     same-length
     same-length-2
     returns-2)

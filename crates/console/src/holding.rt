@@ -2,7 +2,7 @@
 ghost use mathlib.Core.Path.{_≡_};
 ghost use lib.ListN.{length, take};
 ghost use Rattle.protocol.specs.Console.{held};
-ghost use Rattle.requests.specs.Buffer.{bufferWith};
+ghost use Rattle.console.specs.Keys.{bufferWith};
 
 // The next byte of a line of which `count` bytes are held: how many are held then. A line over 64 bytes is refused, whatever its other bytes are, so none is held
 // after the 65th.

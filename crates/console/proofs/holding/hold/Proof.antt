@@ -1,4 +1,4 @@
--- `hold` meets its contract. Assumes nothing.
+-- `hold` meets its contract.
 use mathlib.Core.Path.{_≡_, sym, ap, _∙_}
 use mathlib.Core.List.{[], _∷_, _++_}
 use native.Mathlib.Numerals.{add-one}
@@ -9,8 +9,8 @@ use lib.Seq.{length-take-le, take-all, take-at, take-suc-set}
 use borrow.Author.Needs.{needs}
 use borrow.Author.Tests.{lt-ltb, le-ltb}
 use Rattle.buffers.proofs.Lists.{put-one}
-use Rattle.requests.proofs.holding.hold.Statement.{statement}
-use Rattle.requests.proofs.holding.hold.Tie as tie
+use Rattle.console.proofs.holding.hold.Statement.{statement}
+use Rattle.console.proofs.holding.hold.Tie as tie
 
 -- all 65 bytes are held
 returns : tie.Need-returns

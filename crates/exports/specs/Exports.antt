@@ -1,6 +1,5 @@
 -- What an exported function answers, and what it leaves in the slices lent to it. A slice may be too short for what is to be written at its front: then nothing
 -- is done. Else the answer is the call's own (document 01, "How far a contract must reach").
--- Assumes nothing.
 use mathlib.Core.Path.{_≡_}
 use mathlib.Core.Bool.{cond}
 use mathlib.Core.List.{List}
@@ -9,9 +8,9 @@ use lib.Dec.{ltb}
 use lib.ListN.{length}
 use Rattle.buffers.specs.Bytes.{put}
 use Rattle.reference.specs.Call.{Call}
-use Rattle.reference.specs.Answers.{told, journalAfter}
+use Rattle.reference.specs.Answers.{outcome, journalAfter}
 use Rattle.protocol.specs.Reply.{replyTo, journalAfterLine}
-use Rattle.answers.specs.Numbers.{statusNumbers}
+use Rattle.exports.specs.Numbers.{statusNumbers}
 
 -- a value where a lent slice has no room for so many numbers, and one where it has
 module _ {A : Type 0} where
@@ -31,11 +30,11 @@ module _ (line journal out : List ℕ) where
 
 -- a call that answers a status: its refusal, 0 for none (255, which no refusal is, where the figures are fewer than twenty), the figures, the journal
 module _ (call : Call) (journal figures : List ℕ) where
-  unfoldable pub refusalTold : ℕ
-  refusalTold = ifShort 20 figures 255 (told call journal .refusal)
+  unfoldable pub refusalGiven : ℕ
+  refusalGiven = ifShort 20 figures 255 (outcome call journal .refusal)
 
   unfoldable pub figuresLeft : List ℕ
-  figuresLeft = ifShort 20 figures figures (put figures 0 (statusNumbers (told call journal .status)))
+  figuresLeft = ifShort 20 figures figures (put figures 0 (statusNumbers (outcome call journal .status)))
 
   unfoldable pub journalLeft : List ℕ
   journalLeft = ifShort 20 figures journal (journalAfter call journal)
@@ -43,4 +42,4 @@ module _ (call : Call) (journal figures : List ℕ) where
 -- 0 and 255 tell that a slice is too short, and nothing else
 pub record ShortApart : Type 0 where
   pub reply : (line journal out : List ℕ) → replyCount line journal out ≡ 0 → length out < 96
-  pub figures : (call : Call) (journal figures : List ℕ) → refusalTold call journal figures ≡ 255 → length figures < 20
+  pub figures : (call : Call) (journal figures : List ℕ) → refusalGiven call journal figures ≡ 255 → length figures < 20

@@ -1,4 +1,4 @@
--- Every reply has two bytes or more, and every refusal is at most 16: so 0 and 255 tell of a slice that is too short, and of nothing else. Assumes nothing.
+-- Every reply has two bytes or more, and no refusal is above the largest of the table: so 0 and 255 tell of a slice that is too short, and of nothing else.
 use mathlib.Core.Path.{_≡_}
 use mathlib.Core.List.{List, [], _∷_}
 use Prim.Native.Nat.{ℕ, _≤_, _<_}
@@ -13,12 +13,12 @@ use Rattle.year.specs.Model.{Model}
 use Rattle.journal.specs.Read.{readJournal}
 use Rattle.reference.specs.declared.Answer.{Answer}
 use Rattle.reference.specs.declared.Answer.the-variants.{Accepted, Refused}
-use Rattle.reference.specs.Call.{Call, SetUp, Enter, ReadStatus, WriteMarks}
+use Rattle.reference.specs.Call.{Form, Marks, Query, ReadStatus, Write, Call, SetUp, Enter, Ask}
 use Rattle.reference.specs.Refusals.{refusals, refusal}
-use Rattle.reference.specs.Answers.{refusalOn, answer, markBytes, told}
+use Rattle.reference.specs.Answers.{refusalOn, answer, outBytes, outcome}
 use Rattle.protocol.specs.KeyLine.{Command, Make, Refuse, commandOf}
-use Rattle.protocol.specs.Reply.{marksReply, answerReply, callReply, commandReply, replyTo}
-use Rattle.plt.specs.Exports.{ifShort, replyCount, refusalTold, ShortApart}
+use Rattle.protocol.specs.Reply.{marksReply, outReply, answerReply, queryReply, callReply, commandReply, replyTo}
+use Rattle.exports.specs.Exports.{ifShort, replyCount, refusalGiven, ShortApart}
 
 -- ---- a reply
 
@@ -30,13 +30,19 @@ answer-long : (a : Answer) → 2 ≤ length (answerReply a)
 answer-long (Accepted s) = omega arith
 answer-long (Refused number) = omega arith
 
+out-long : (form : Form) (bytes : List ℕ) → 2 ≤ length (outReply form bytes)
+out-long Marks bytes = marks-long bytes
+
+query-long : (query : Query) (journal : List ℕ) → 2 ≤ length (queryReply query journal)
+query-long ReadStatus journal = answer-long (answer (Ask ReadStatus) journal)
+query-long (Write form size) journal =
+    by-test (λ (bytes : List ℕ). 2 ≤ length bytes) (eqb (refusalOn (Ask (Write form size)) journal) 0) _ _
+    (λ _. out-long form (outBytes form (readJournal journal))) (λ _. omega arith)
+
 call-long : (call : Call) (journal : List ℕ) → 2 ≤ length (callReply call journal)
 call-long (SetUp s) journal = answer-long (answer (SetUp s) journal)
 call-long (Enter entry) journal = answer-long (answer (Enter entry) journal)
-call-long ReadStatus journal = answer-long (answer ReadStatus journal)
-call-long (WriteMarks size) journal =
-    by-test (λ (bytes : List ℕ). 2 ≤ length bytes) (eqb (refusalOn (WriteMarks size) journal) 0) _ _
-    (λ _. marks-long (markBytes (readJournal journal))) (λ _. omega arith)
+call-long (Ask query) journal = query-long query journal
 
 command-long : (command : Command) (journal : List ℕ) → 2 ≤ length (commandReply command journal)
 command-long (Make call) journal = call-long call journal
@@ -48,6 +54,10 @@ reply-long line journal = command-long (commandOf line) journal
 
 -- ---- a refusal
 
+-- the largest number of the table
+abbrev largest : ℕ
+largest = 16
+
 -- every number of a table is at most so much, and so is the one that is taken
 abbrev UpTo : ℕ → List Row → Type 0
 UpTo most [] = Unit {0}
@@ -57,13 +67,13 @@ first-up-to : (most : ℕ) (rows : List Row) → UpTo most rows → first rows 0
 first-up-to most [] u = omega arith
 first-up-to most (row ∷ rows) u = by-test (λ (n : ℕ). n ≤ most) (row .0) (row .1) (first rows 0) (λ _. u .0) (λ _. first-up-to most rows (u .1))
 
-refusals-up-to : (size : ℕ) (call : Call) (model : Model) → UpTo 16 (refusals size call model)
+refusals-up-to : (size : ℕ) (call : Call) (model : Model) → UpTo largest (refusals size call model)
 unfolding refusals
 refusals-up-to size call model = omega arith
 
-refusal-up-to : (call : Call) (journal : List ℕ) → told call journal .refusal ≤ 16
-unfolding told refusal
-refusal-up-to call journal = first-up-to 16 (refusals (length journal) call (readJournal journal)) (refusals-up-to (length journal) call (readJournal journal))
+refusal-up-to : (call : Call) (journal : List ℕ) → outcome call journal .refusal ≤ largest
+unfolding outcome refusal
+refusal-up-to call journal = first-up-to largest (refusals (length journal) call (readJournal journal)) (refusals-up-to (length journal) call (readJournal journal))
 
 -- ---- both
 
@@ -79,9 +89,9 @@ reply-apart : (line journal out : List ℕ) → replyCount line journal out ≡ 
 unfolding replyCount
 reply-apart line journal out = apart 96 out 0 (length (replyTo line journal)) (λ e. omega (arith, reply-long line journal))
 
-figures-apart : (call : Call) (journal figures : List ℕ) → refusalTold call journal figures ≡ 255 → length figures < 20
-unfolding refusalTold
-figures-apart call journal figures = apart 20 figures 255 (told call journal .refusal) (λ e. omega (arith, refusal-up-to call journal))
+figures-apart : (call : Call) (journal figures : List ℕ) → refusalGiven call journal figures ≡ 255 → length figures < 20
+unfolding refusalGiven
+figures-apart call journal figures = apart 20 figures 255 (outcome call journal .refusal) (λ e. omega (arith, refusal-up-to call journal))
 
 pub short-apart : ShortApart
 short-apart = record { reply = reply-apart; figures = figures-apart }

@@ -1,6 +1,5 @@
 -- An answer as numbers, for a caller in another language (document 01, "The book": "Status reads a book: n, verdict, and per pollutant S, s, e, both C, both H,
 -- N in tenths, mark").
--- Assumes nothing.
 use mathlib.Core.Path.{_≡_}
 use mathlib.Core.List.{List, [], _∷_, _++_}
 use Prim.Native.Nat.{ℕ}

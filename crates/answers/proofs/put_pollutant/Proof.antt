@@ -1,11 +1,11 @@
--- `write_pollutant` meets its contract: the stores cover the part. Assumes nothing.
+-- `put_pollutant` meets its contract: the stores cover the part.
 use native.Mathlib.Omega.{arith}
 use lib.ListN.{length-set}
 use Rattle.buffers.proofs.Lists.{sets-all}
-use Rattle.answers.specs.Numbers.{pollutantNumbers}
+use Rattle.exports.specs.Numbers.{pollutantNumbers}
 use borrow.Author.Needs.{needs}
-use Rattle.answers.proofs.write_pollutant.Statement.{statement}
-use Rattle.answers.proofs.write_pollutant.Tie as tie
+use Rattle.answers.proofs.put_pollutant.Statement.{statement}
+use Rattle.answers.proofs.put_pollutant.Tie as tie
 
 slice-write-part : tie.Need-slice-write-part
 slice-write-part c = search needs
@@ -52,8 +52,8 @@ returns c =
     let start = c .before .before .before in
     rw (c .before .size-number .ensures, c .mark-byte .ensures) (sets-all (start .args .part .now) (pollutantNumbers (start .args .f)) (start .pre))
 
-pub write-pollutant-spec : {M : Type 1} → statement M
-write-pollutant-spec =
+pub put-pollutant-spec : {M : Type 1} → statement M
+put-pollutant-spec =
     tie.close
     (tie.spec
     slice-write-part

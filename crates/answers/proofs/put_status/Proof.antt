@@ -1,4 +1,4 @@
--- `write_status` meets its contract. Assumes nothing.
+-- `put_status` meets its contract.
 use mathlib.Core.Path.{_≡_, ap, _∙_}
 use mathlib.Core.List.{List}
 use Prim.Native.Nat.{ℕ}
@@ -6,35 +6,35 @@ use native.Mathlib.Omega.{arith}
 use lib.ListN.{length, length-set}
 use borrow.Rule.Slice.PartMut.{putMid}
 use Rattle.buffers.specs.Bytes.{put}
-use Rattle.answers.specs.Numbers.{pollutantNumbers}
+use Rattle.exports.specs.Numbers.{pollutantNumbers}
 use Rattle.answers.proofs.Numbers.{length-nine, both-long, all-put, are-status}
 use borrow.Author.Needs.{needs}
-use Rattle.answers.proofs.write_status.Statement.{statement}
-use Rattle.answers.proofs.write_status.Tie as tie
+use Rattle.answers.proofs.put_status.Statement.{statement}
+use Rattle.answers.proofs.put_status.Tie as tie
 
-sub-write-pollutant : tie.Need-sub-write-pollutant
-sub-write-pollutant c = search needs
+sub-put-pollutant : tie.Need-sub-put-pollutant
+sub-put-pollutant c = search needs
 
-part-write-pollutant-start : tie.Need-part-write-pollutant-start
-part-write-pollutant-start c = search needs
+part-put-pollutant-start : tie.Need-part-put-pollutant-start
+part-put-pollutant-start c = search needs
 
-part-write-pollutant-end : tie.Need-part-write-pollutant-end
-part-write-pollutant-end c = search needs
+part-put-pollutant-end : tie.Need-part-put-pollutant-end
+part-put-pollutant-end c = search needs
 
-write-pollutant-requires : tie.Need-write-pollutant-requires
-write-pollutant-requires c κs = search needs
+put-pollutant-requires : tie.Need-put-pollutant-requires
+put-pollutant-requires c κs = search needs
 
-sub-write-pollutant-2 : tie.Need-sub-write-pollutant-2
-sub-write-pollutant-2 c = search needs
+sub-put-pollutant-2 : tie.Need-sub-put-pollutant-2
+sub-put-pollutant-2 c = search needs
 
-part-write-pollutant-start-2 : tie.Need-part-write-pollutant-start-2
-part-write-pollutant-start-2 c = search needs
+part-put-pollutant-start-2 : tie.Need-part-put-pollutant-start-2
+part-put-pollutant-start-2 c = search needs
 
-part-write-pollutant-end-2 : tie.Need-part-write-pollutant-end-2
-part-write-pollutant-end-2 c = search needs
+part-put-pollutant-end-2 : tie.Need-part-put-pollutant-end-2
+part-put-pollutant-end-2 c = search needs
 
-write-pollutant-requires-2 : tie.Need-write-pollutant-requires-2
-write-pollutant-requires-2 c κs = search needs
+put-pollutant-requires-2 : tie.Need-put-pollutant-requires-2
+put-pollutant-requires-2 c κs = search needs
 
 cast-numbers : tie.Need-cast-numbers
 cast-numbers c = search needs
@@ -46,21 +46,21 @@ cast-numbers-2 : tie.Need-cast-numbers-2
 cast-numbers-2 c = search needs
 
 -- both pollutants are written
-module _ (c : tie.After-write-pollutant2) where
+module _ (c : tie.After-put-pollutant2) where
   abbrev start : tie.Start
   start = c .before .before .before .before .before .before .before
 
   abbrev first : List ℕ
-  first = c .before .before .before .before .write-pollutant .last .0
+  first = c .before .before .before .before .put-pollutant .last .0
 
   abbrev second : List ℕ
-  second = c .write-pollutant2 .last .0
+  second = c .put-pollutant2 .last .0
 
   is-hcnox : first ≡ pollutantNumbers (start .args .s .hcnox)
-  is-hcnox = c .before .before .before .before .write-pollutant .ensures
+  is-hcnox = c .before .before .before .before .put-pollutant .ensures
 
   is-co : second ≡ pollutantNumbers (start .args .s .co)
-  is-co = c .write-pollutant2 .ensures
+  is-co = c .put-pollutant2 .ensures
 
   nine : length first ≡ 9
   nine = ap length is-hcnox ∙ length-nine (start .args .s .hcnox)
@@ -85,18 +85,18 @@ returns c =
     let written = all-put (s .args .numbers .now) (first w) (second w) (s .pre) (nine w) (other w) (s .args .s .n) (s .args .s .verdict) in
     written ∙ ap (put (s .args .numbers .now) 0) (are-status (s .args .s) (first w) (second w) (is-hcnox w) (is-co w))
 
-pub write-status-spec : {M : Type 1} → statement M
-write-status-spec =
+pub put-status-spec : {M : Type 1} → statement M
+put-status-spec =
     tie.close
     (tie.spec
-    sub-write-pollutant
-    part-write-pollutant-start
-    part-write-pollutant-end
-    write-pollutant-requires
-    sub-write-pollutant-2
-    part-write-pollutant-start-2
-    part-write-pollutant-end-2
-    write-pollutant-requires-2
+    sub-put-pollutant
+    part-put-pollutant-start
+    part-put-pollutant-end
+    put-pollutant-requires
+    sub-put-pollutant-2
+    part-put-pollutant-start-2
+    part-put-pollutant-end-2
+    put-pollutant-requires-2
     cast-numbers
     slice-write-numbers
     cast-numbers-2
