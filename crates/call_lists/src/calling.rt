@@ -5,15 +5,14 @@ ghost use lib.ListN.{length};
 use crate::lines::answer;
 use crate::lines::quoted;
 use buffers::parts::clear;
-use calls::amend;
-use calls::begin_period;
-use calls::declare;
-use calls::enter_engine;
-use calls::marks;
-use calls::read_status;
-use calls::set_up;
-use calls::write_marks;
+use entries::enter_change;
+use entries::enter_engine;
+use entries::set_up;
+use queries::marks;
+use queries::read_status;
+use queries::write_marks;
 use reference::Answer;
+use reference::Change;
 use rounding::Factor;
 use test_lines::lines::end;
 use test_lines::lines::next;
@@ -96,13 +95,13 @@ fn answer_of(letter: u8, numbers: &[u32], journal: &mut [u8]) -> Answer
             hcnox: numbers[0],
             co: numbers[1],
         };
-        return amend(journal, standards);
+        return enter_change(journal, Change::Amend(standards));
     }
     if letter == b'P' {
-        return begin_period(journal);
+        return enter_change(journal, Change::BeginPeriod);
     }
     if letter == b'X' {
-        return declare(journal);
+        return enter_change(journal, Change::Declare);
     }
     read_status(journal)
 }
