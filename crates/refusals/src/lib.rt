@@ -7,6 +7,7 @@ ghost use Rattle.reference.specs.Call.{Marks, ReadStatus, Write, SetUp, Ask};
 ghost use Rattle.reference.specs.Answers.{refusalOn};
 ghost use Rattle.scan.specs.Scan.{Tells};
 ghost use Rattle.refusals.specs.Parts.{entryRows};
+use journal::JOURNAL_SIZE;
 use scan::Scanned;
 use schedule::factors_in_range;
 use schedule::production_in_range;
@@ -32,7 +33,7 @@ pub fn setup_refusal(journal: &[u8], s: Setup) -> u8
     let factors = row(!factors_in_range(s), 6, 0);
     let standard = row(!standards_in_range(standards), 5, factors);
     let production = row(!production_in_range(s), 4, standard);
-    row(journal.len() != 544, 3, production)
+    row(journal.len() != JOURNAL_SIZE, 3, production)
 }
 
 // 3 and 7.
@@ -40,7 +41,7 @@ pub fn status_refusal(journal: &[u8], scanned: Scanned) -> u8
     requires { ⌜ Tells scanned (readJournal (now journal)) ⌝ }
     ensures { λ r. ⌜ r ≡ refusalOn (Ask ReadStatus) (now (journal .entry)) ⌝ }
 {
-    row(journal.len() != 544, 3, row(!scanned.accepted, 7, 0))
+    row(journal.len() != JOURNAL_SIZE, 3, row(!scanned.accepted, 7, 0))
 }
 
 // 3, 7 and 16, for an output of this size.
@@ -61,7 +62,7 @@ pub fn entry_refusal(journal: &[u8], unfit: bool, scanned: Scanned) -> u8
     requires { ⌜ Tells scanned (readJournal (now journal)) ⌝ }
     ensures { λ r. ⌜ r ≡ first (entryRows unfit (now (journal .entry))) 0 ⌝ }
 {
-    if journal.len() != 544 {
+    if journal.len() != JOURNAL_SIZE {
         return 3;
     }
     if unfit {
