@@ -16,8 +16,7 @@ use Rattle.year.specs.Status.{status, printedMarks}
 use Rattle.year.specs.Model.{noSetup}
 use Rattle.progress.specs.State.{shown, Consistent}
 use Rattle.progress.proofs.Carried.{count-le, counted}
-use Rattle.engines.specs.Engines.{tested}
-use Rattle.printing.specs.Ranges.{MarksInRange}
+use Rattle.engines.specs.Engines.{tested, EnginesInRange}
 use Rattle.journal.specs.Encode.{encode}
 use Rattle.journal.specs.Read.{readJournal}
 use Rattle.encoder.specs.Fits.{SetupFits}
@@ -102,7 +101,7 @@ module _ (journal : List ℕ) (scanned : Scanned) (t : Tells scanned (readJourna
       pub marks-room : 2 * scanned .progress .engines .count ≤ length out
       marks-room = rw engines at (out-fits journal (length out) h)
 
-      pub marks-range : (k : ℕ) → k ≤ 8192 → MarksInRange (scanned .progress .engines) k
+      pub marks-range : (k : ℕ) → k ≤ 8192 → EnginesInRange (scanned .progress .engines) k
       marks-range k fine = record { histories = consistent .inRange .histories; fine = fine }
 
       part : marksPart journal out ≡ markBytes (readJournal journal)

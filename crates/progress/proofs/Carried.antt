@@ -1,6 +1,6 @@
 -- What is carried beside the year, taken apart: the number of engines, and each pollutant's figures with their ranges.
 -- Assumes nothing.
-use mathlib.Core.Path.{_≡_, sym, ap, _∙_}
+use mathlib.Core.Path.{_≡_, ap}
 use mathlib.Core.Bool.{true}
 use Prim.Native.Nat.{ℕ, _≤_, _<_}
 use native.Mathlib.Omega.{arith}
@@ -15,8 +15,8 @@ use Rattle.year.proofs.Replayed.{history-length}
 use Rattle.year.proofs.Ranges.{standard-le, tested-in-le, engine-number, engine-room, engine-results}
 use Rattle.figures.specs.declared.Running.{Running}
 use Rattle.figures.specs.Running.{running, RunningInRange, Worked}
-use Rattle.engines.specs.Engines.{resultsOf, standardsOf, tested, testsTo, EngineInRange, ReworkInRange}
-use Rattle.engines.proofs.Arrays.{tested-length, tested-history, tested-fits}
+use Rattle.engines.specs.Engines.{tested, EngineInRange}
+use Rattle.engines.proofs.Arrays.{tested-length}
 use Rattle.progress.specs.declared.Progress.{Progress as State}
 use Rattle.progress.specs.State.{shown, Consistent}
 use borrow.Author.Tests.{leb-true}
@@ -52,15 +52,6 @@ module _ (p : State) (c : Consistent p) where
     pub undecided-is : f .undecided ≡ undecided (marks k (history q (tested (p .engines))))
     unfolding running
     undecided-is = ap (λ (g : Running). g .undecided) e
-
-  -- the figures worked from the arrays: the ranges are met, and they are the year's
-  module _ (k : ℕ) (q : Pollutant) where
-    pub rework-fits : k ≤ 8192 → ReworkInRange (resultsOf q (p .engines)) (standardsOf q (p .engines)) (p .engines .count) k
-    rework-fits fine = tested-fits q (p .engines) k (c .inRange .histories q) fine
-
-    pub reworked : (f : Running) → f ≡ running k (testsTo (resultsOf q (p .engines)) (standardsOf q (p .engines)) (p .engines .count))
-        → f ≡ running k (history q (tested (p .engines)))
-    reworked f e = e ∙ ap (running k) (sym (tested-history q (p .engines) (p .engines .count)))
 
   -- one result more in the figures, where there is a place
   pub add-fits : (q : Pollutant) (x : ℕ) → p .engines .count < 40 → x ≤ 20000 → RunningInRange 1024 (figuresOf q p) x

@@ -1,7 +1,7 @@
 -- What the state of the code says, in the words of the definitions, and what it carries beside it so that nothing is worked twice.
 -- Assumes nothing.
 use mathlib.Core.Path.{_≡_}
-use Prim.Native.Nat.{ℕ, _≤_}
+use Prim.Native.Nat.{ℕ}
 use Rattle.year.specs.Setup.{Hcnox, Co}
 use Rattle.year.specs.Replay.{Progress, history, testedIn}
 use Rattle.year.specs.Ranges.{InRange}
@@ -39,8 +39,3 @@ pub record Judged (p : State) (h o : Running) : Type 0 where
   pub consistent : Consistent p
   pub resolution : ℕ
   pub figures : Figured resolution p h o
-
--- for figures worked anew: at a resolution of up to 8 × 1,024
-pub record ReworkInRange (p : State) (k : ℕ) : Type 0 where
-  pub consistent : Consistent p
-  pub fine : k ≤ 8192
