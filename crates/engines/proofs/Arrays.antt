@@ -19,7 +19,7 @@ use Rattle.year.specs.Replay.{Tested, history, isTested}
 use Rattle.figures.specs.declared.Running.{Running}
 use Rattle.figures.specs.Running.{running, RunningInRange}
 use Rattle.engines.specs.declared.Engines.{Engines}
-use Rattle.engines.specs.Engines.{resultsOf, standardsOf, testedAt, testedTo, tested, testsTo, EnginesInRange, ColumnsInRange}
+use Rattle.engines.specs.Engines.{resultsOf, standardsOf, testedAt, testedTo, tested, testsTo, EngineInRange, EnginesInRange, ColumnsInRange}
 use Rattle.engines.proofs.Sized.{Sized}
 
 pub tests-length : (xs ts : List ℕ) (n : ℕ) → length (testsTo xs ts n) ≡ n
@@ -44,6 +44,11 @@ tests-before xs ts (suc n) i h r = ⊎-elim (λ l. tests-before xs ts n i l (r .
 
 joined : {x y : Tested} {xs ys : List Tested} → x ≡ y → xs ≡ ys → x ∷ xs ≡ y ∷ ys
 joined p q = rw (p, q)
+
+-- each number of one engine more is narrow enough for its array
+pub narrow : {e : Engines} {n d : ℕ} {xs ts : Pair} → EngineInRange e n xs ts d
+    → (e .count < 40) × (n ≤ 65535) × (d ≤ 4) × (xs .hcnox ≤ 20000) × (xs .co ≤ 20000) × (ts .hcnox ≤ 20000) × (ts .co ≤ 20000)
+narrow r = (r .place, r .number, r .period, r .results Hcnox, r .results Co, r .standards Hcnox, r .standards Co)
 
 -- one engine more at the next place: the engines before it are kept
 module _ (e : Engines) (number period : ℕ) (results standards : Pair) where

@@ -7,6 +7,7 @@ use Rattle.year.specs.Replay.{Progress, history, testedIn}
 use Rattle.year.specs.Ranges.{InRange}
 use Rattle.figures.specs.declared.Running.{Running}
 use Rattle.figures.specs.Running.{running}
+use Rattle.engines.specs.declared.Engines.{Engines}
 use Rattle.engines.specs.Engines.{tested}
 use Rattle.progress.specs.declared.Progress.{Progress as State}
 
@@ -22,20 +23,20 @@ shown p =
       declared = p .declared;
     }
 
--- two pollutants' figures are those of the year at resolution k
-pub record Figured (k : ℕ) (p : State) (h o : Running) : Type 0 where
-  pub hcnox : h ≡ running k (history Hcnox (tested (p .engines)))
-  pub co : o ≡ running k (history Co (tested (p .engines)))
+-- two pollutants' figures are those of the tested engines at resolution k
+pub record Figured (k : ℕ) (e : Engines) (h o : Running) : Type 0 where
+  pub hcnox : h ≡ running k (history Hcnox (tested e))
+  pub co : o ≡ running k (history Co (tested e))
 
 -- the year is in range, and what is carried beside it is what is worked from it: the engines of the current period, and the figures of both pollutants
 -- at resolution 1,024
 pub record Consistent (p : State) : Type 0 where
   pub inRange : InRange (shown p)
   pub current : p .current ≡ testedIn (p .period) (tested (p .engines))
-  pub figures : Figured 1024 p (p .hcnox) (p .co)
+  pub figures : Figured 1024 (p .engines) (p .hcnox) (p .co)
 
 -- for a verdict by other figures: they are the year's at some resolution
 pub record Judged (p : State) (h o : Running) : Type 0 where
   pub consistent : Consistent p
   pub resolution : ℕ
-  pub figures : Figured resolution p h o
+  pub figures : Figured resolution (p .engines) h o

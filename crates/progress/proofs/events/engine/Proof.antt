@@ -1,9 +1,7 @@
 -- `events::engine` meets its contract. Assumes nothing.
 use native.Mathlib.Omega.{arith}
 use Rattle.year.specs.Setup.{Hcnox, Co}
-use Rattle.year.specs.Replay.{history}
-use Rattle.engines.specs.Engines.{tested}
-use Rattle.progress.proofs.Carried.{current-le, engine-fits, result-fits, carried}
+use Rattle.progress.proofs.Carried.{current-le, engine-fits, result-fits}
 use Rattle.progress.proofs.Steps.{engine}
 use borrow.Author.Needs.{needs}
 use Rattle.progress.proofs.events.engine.Statement.{statement}
@@ -36,11 +34,8 @@ returns : tie.Need-returns
 returns c =
     let w = c .before .before .before .before in
     let s = w .before .before .before .before .before .before in
-    let p = s .args .p in
-    engine p (s .pre .0) (s .args .number) (s .args .readings) (s .args .results) (w .with-engine .result) (c .before .add .result) (c .add2 .result)
-    (s .pre .1) (w .with-engine .ensures)
-    (c .before .add .ensures (history Hcnox (tested (p .engines))) (carried p (s .pre .0) Hcnox))
-    (c .add2 .ensures (history Co (tested (p .engines))) (carried p (s .pre .0) Co))
+    engine (s .args .p) (s .pre .0) (s .args .number) (s .args .readings) (s .args .results) (w .with-engine .result) (c .before .add .result) (c .add2 .result)
+    (s .pre .1) (w .with-engine .ensures) (c .before .add .ensures) (c .add2 .ensures)
 
 pub engine-spec : {M : Type 1} → statement M
 engine-spec =
