@@ -12,14 +12,13 @@ use Rattle.year.specs.Setup.{Pollutant, Hcnox, Co, of}
 use Rattle.year.specs.Replay.{history}
 use Rattle.year.specs.Admissible.{admissible}
 use Rattle.year.proofs.Replayed.{history-length}
-use Rattle.year.proofs.Ranges.{standard-le, tested-in-le, engine-number, engine-room, engine-results}
+use Rattle.year.proofs.Ranges.{standard-le, tested-in-le, admitted-engine}
 use Rattle.figures.specs.declared.Running.{Running}
 use Rattle.figures.specs.Running.{running, RunningInRange, Worked}
 use Rattle.engines.specs.Engines.{tested, EngineInRange}
 use Rattle.engines.proofs.Arrays.{tested-length}
 use Rattle.progress.specs.declared.Progress.{Progress as State}
 use Rattle.progress.specs.State.{shown, Consistent}
-use borrow.Author.Tests.{leb-true}
 
 -- a pollutant's figures of a state
 abbrev pub figuresOf : Pollutant → State → Running
@@ -67,14 +66,14 @@ module _ (p : State) (c : Consistent p) where
   -- an engine that could be entered: it has a place, its numbers fit, and there is room in the figures
   module _ (number readings : ℕ) (results : Pair) (h : admissible (shown p) (Engine number readings results) ≡ true) where
     pub place : p .engines .count < 40
-    place = omega (arith, engine-room (shown p) number readings results h, counted)
+    place = omega (arith, admitted-engine (shown p) number readings results h .room, counted)
 
     pub engine-fits : EngineInRange (p .engines) number results (p .standards) (p .period)
     engine-fits =
         record {
           place = place;
-          number = engine-number (shown p) number readings results h;
-          results = λ q. leb-true _ _ (engine-results (shown p) number readings results h q);
+          number = admitted-engine (shown p) number readings results h .number;
+          results = admitted-engine (shown p) number readings results h .results;
           standards = standard-le (p .standards) (c .inRange .standards);
           period = c .inRange .period;
         }
