@@ -1,4 +1,3 @@
 pub mod Told
-pub mod Ranging
 pub mod Parts
 pub mod OneEngine
