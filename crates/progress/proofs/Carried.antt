@@ -25,6 +25,12 @@ abbrev pub figuresOf : Pollutant → State → Running
 figuresOf Hcnox p = p .hcnox
 figuresOf Co p = p .co
 
+-- room for an engine: its place and its numbers in the arrays, one more of the current period, and its results in the figures
+pub record Room (p : State) (number : ℕ) (results : Pair) : Type 0 where
+  pub engine : EngineInRange (p .engines) number results (p .standards) (p .period)
+  pub current : p .current ≤ 40
+  pub figures : (q : Pollutant) → RunningInRange 1024 (figuresOf q p) (of q results)
+
 module _ (p : State) (c : Consistent p) where
   pub counted : length (tested (p .engines)) ≡ p .engines .count
   counted = tested-length (p .engines) (p .engines .count)
@@ -32,10 +38,7 @@ module _ (p : State) (c : Consistent p) where
   pub count-le : p .engines .count ≤ 40
   count-le = omega (arith, c .inRange .histories Hcnox .few, history-length Hcnox (tested (p .engines)), counted)
 
-  pub current-le : p .current ≤ 40
-  current-le = omega (arith, c .current, tested-in-le (p .period) (tested (p .engines)), count-le, counted)
-
-  pub carried : (q : Pollutant) → figuresOf q p ≡ running 1024 (history q (tested (p .engines)))
+  carried : (q : Pollutant) → figuresOf q p ≡ running 1024 (history q (tested (p .engines)))
   carried Hcnox = c .figures .hcnox
   carried Co = c .figures .co
 
@@ -52,31 +55,20 @@ module _ (p : State) (c : Consistent p) where
     unfolding running
     undecided-is = ap (λ (g : Running). g .undecided) e
 
-  -- one result more in the figures, where there is a place
-  pub add-fits : (q : Pollutant) (x : ℕ) → p .engines .count < 40 → x ≤ 20000 → RunningInRange 1024 (figuresOf q p) x
-  add-fits q x place le =
+  -- an engine that could be entered has room
+  pub room : (number readings : ℕ) (results : Pair) → admissible (shown p) (Engine number readings results) ≡ true → Room p number results
+  room number readings results h =
+      let a = admitted-engine (shown p) number readings results h in
+      let place : p .engines .count < 40 = omega (arith, a .room, counted) in
       record {
-        history = history q (tested (p .engines));
-        worked = carried q;
-        inRange = record { few = omega (arith, place, history-length q (tested (p .engines)), counted); tests = c .inRange .histories q .tests };
-        result = le;
-        fine = omega arith;
+        engine = record { place = place; number = a .number; results = a .results; standards = standard-le (p .standards) (c .inRange .standards); period = c .inRange .period };
+        current = omega (arith, c .current, tested-in-le (p .period) (tested (p .engines)), counted);
+        figures = λ q.
+            record {
+              history = history q (tested (p .engines));
+              worked = carried q;
+              inRange = record { few = omega (arith, place, history-length q (tested (p .engines)), counted); tests = c .inRange .histories q .tests };
+              result = a .results q;
+              fine = omega arith;
+            };
       }
-
-  -- an engine that could be entered: it has a place, its numbers fit, and there is room in the figures
-  module _ (number readings : ℕ) (results : Pair) (h : admissible (shown p) (Engine number readings results) ≡ true) where
-    pub place : p .engines .count < 40
-    place = omega (arith, admitted-engine (shown p) number readings results h .room, counted)
-
-    pub engine-fits : EngineInRange (p .engines) number results (p .standards) (p .period)
-    engine-fits =
-        record {
-          place = place;
-          number = admitted-engine (shown p) number readings results h .number;
-          results = admitted-engine (shown p) number readings results h .results;
-          standards = standard-le (p .standards) (c .inRange .standards);
-          period = c .inRange .period;
-        }
-
-    pub result-fits : (q : Pollutant) → RunningInRange 1024 (figuresOf q p) (of q results)
-    result-fits q = add-fits q (of q results) place (engine-fits .results q)

@@ -11,20 +11,18 @@ use borrow.Author.Tests.{not-true}
 use Rattle.buffers.proofs.Tests.{not-false}
 use Rattle.year.specs.declared.Pair.{Pair}
 use Rattle.year.specs.declared.Event.{Event}
-use Rattle.year.specs.Setup.{Pollutant, Hcnox, Co, of}
+use Rattle.year.specs.Setup.{Hcnox, Co}
 use Rattle.year.specs.Replay.{after}
 use Rattle.year.specs.Admissible.{admissible}
 use Rattle.journal.specs.Encode.{slotPlace}
 use Rattle.journal.specs.Read.{eventIn}
 use Rattle.journal.specs.Acceptance.{entersAt}
-use Rattle.figures.specs.Running.{RunningInRange}
 use Rattle.engines.specs.declared.Engines.{Engines}
-use Rattle.engines.specs.Engines.{EngineInRange}
 use Rattle.engines.proofs.Sized.{Sized, sized}
 use Rattle.engines.proofs.Arrays.{narrow, tested-next, with-engine-sized}
 use Rattle.progress.specs.declared.Progress.{Progress as State}
 use Rattle.progress.specs.State.{shown, Consistent}
-use Rattle.progress.proofs.Carried.{figuresOf, current-le, engine-fits, result-fits}
+use Rattle.progress.proofs.Carried.{Room, room}
 use Rattle.progress.proofs.Steps.{Stands, amended, next-period, declared, engine}
 use Rattle.scan.specs.Scan.{Tells, Entered}
 use Rattle.scan.proofs.Entering.{found, admitted, entry, stopped, finished}
@@ -112,7 +110,7 @@ module _ (c : tie.Else1 Inv-loop μ-loop) {e : Event} (is : event (c .before) �
     whole,
   )
 
--- its event is an engine: each number fits its array, and there is room in the figures
+-- its event is an engine: there is room for it
 module _ (c : tie.After-known-told Inv-loop μ-loop) where
   abbrev slot : tie.Else1 Inv-loop μ-loop
   slot = c .before .before .before .before
@@ -129,14 +127,8 @@ module _ (c : tie.After-known-told Inv-loop μ-loop) where
   abbrev results : Pair
   results = c .before .e .given .0 .1 .1 .0
 
-  abbrev consistent : Consistent before
-  consistent = entered (slot .before) .consistent
-
-  fit : EngineInRange (before .engines) number results (before .standards) (before .period)
-  fit = engine-fits before consistent number readings results (admissible-here slot (c .before .e .given .1))
-
-  add-fits : (q : Pollutant) → RunningInRange 1024 (figuresOf q before) (of q results)
-  add-fits = result-fits before consistent number readings results (admissible-here slot (c .before .e .given .1))
+  fit : Room before number results
+  fit = room before (entered (slot .before) .consistent) number readings results (admissible-here slot (c .before .e .given .1))
 
 loop-again : tie.Need-loop-again Inv-loop μ-loop
 loop-again c =
@@ -145,7 +137,7 @@ loop-again c =
     let s = size (slot e .before) in
     round (slot e) (e .before .e .given .1)
     (λ w a. engine p w (number e) (readings e) (results e) _ (c .before .add .result) (c .add2 .result) a
-    (tested-next (p .engines) (number e) (p .period) (results e) (p .standards) (fit e .place) s)
+    (tested-next (p .engines) (number e) (p .period) (results e) (p .standards) (fit e .engine .place) s)
     (c .before .add .ensures) (c .add2 .ensures))
     (with-engine-sized (p .engines) (number e) (p .period) (results e) (p .standards) s)
 
@@ -168,17 +160,17 @@ enter-slots-spec =
     (λ c κs. c .before .before .before .before .before .loop .inv .2 .consistent) (λ c κs. search needs) (λ c κs. search needs) returns
     (λ c. omega arith) (λ c. omega (arith, entered (c .before .before) .consistent .inRange .events))
     -- an engine: its place; then for each array the cast, the offset of the place (bytes have none) and the index
-    (λ c. search needs) (λ c. omega (arith, narrow (fit c)))
-    (λ c. omega (arith, narrow (fit c))) (λ c. omega (arith, narrow (fit c))) (λ c. omega (arith, narrow (fit c)))
-    (λ c. omega (arith, narrow (fit (c .before)))) (λ c. omega (arith, narrow (fit (c .before))))
-    (λ c. omega (arith, narrow (fit (c .before .before)))) (λ c. omega (arith, narrow (fit (c .before .before)))) (λ c. omega (arith, narrow (fit (c .before .before))))
-    (λ c. omega (arith, narrow (fit (c .before .before .before)))) (λ c. omega (arith, narrow (fit (c .before .before .before)))) (λ c. omega (arith, narrow (fit (c .before .before .before))))
-    (λ c. omega (arith, narrow (fit (c .before .before .before .before)))) (λ c. omega (arith, narrow (fit (c .before .before .before .before)))) (λ c. omega (arith, narrow (fit (c .before .before .before .before))))
-    (λ c. omega (arith, narrow (fit (c .before .before .before .before .before)))) (λ c. omega (arith, narrow (fit (c .before .before .before .before .before)))) (λ c. omega (arith, narrow (fit (c .before .before .before .before .before))))
-    (λ c. let e = c .before .before .before .before .before .before in omega (arith, current-le (before e) (consistent e)))
+    (λ c. search needs) (λ c. omega (arith, narrow (fit c .engine)))
+    (λ c. omega (arith, narrow (fit c .engine))) (λ c. omega (arith, narrow (fit c .engine))) (λ c. omega (arith, narrow (fit c .engine)))
+    (λ c. omega (arith, narrow (fit (c .before) .engine))) (λ c. omega (arith, narrow (fit (c .before) .engine)))
+    (λ c. omega (arith, narrow (fit (c .before .before) .engine))) (λ c. omega (arith, narrow (fit (c .before .before) .engine))) (λ c. omega (arith, narrow (fit (c .before .before) .engine)))
+    (λ c. omega (arith, narrow (fit (c .before .before .before) .engine))) (λ c. omega (arith, narrow (fit (c .before .before .before) .engine))) (λ c. omega (arith, narrow (fit (c .before .before .before) .engine)))
+    (λ c. omega (arith, narrow (fit (c .before .before .before .before) .engine))) (λ c. omega (arith, narrow (fit (c .before .before .before .before) .engine))) (λ c. omega (arith, narrow (fit (c .before .before .before .before) .engine)))
+    (λ c. omega (arith, narrow (fit (c .before .before .before .before .before) .engine))) (λ c. omega (arith, narrow (fit (c .before .before .before .before .before) .engine))) (λ c. omega (arith, narrow (fit (c .before .before .before .before .before) .engine)))
+    (λ c. omega (arith, fit (c .before .before .before .before .before .before) .current))
     -- its figures
-    (λ c κs. add-fits (c .before .before .before .before .before .before) Hcnox)
-    (λ c κs. add-fits (c .before .before .before .before .before .before .before) Co)
+    (λ c κs. fit (c .before .before .before .before .before .before) .figures Hcnox)
+    (λ c κs. fit (c .before .before .before .before .before .before .before) .figures Co)
     (λ c. omega (arith, more (slot (c .before .before .before .before .before .before .before .before) .before)))
     loop-again
     -- an amendment
