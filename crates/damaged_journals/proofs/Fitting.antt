@@ -2,8 +2,8 @@
 -- Assumes nothing.
 use mathlib.Core.Path.{_≡_, sym, subst}
 use mathlib.Core.List.{List}
-use Prim.Native.Nat.{ℕ}
-use lib.Dec.{eqb}
+use Prim.Native.Nat.{ℕ, _<_}
+use lib.Dec.{eqb, lit<}
 use lib.ListN.{getD}
 use Rattle.buffers.proofs.Tests.{by-test}
 use Rattle.buffers.proofs.LittleEndian.{Bytes}
@@ -15,10 +15,11 @@ use Rattle.encoder.specs.Fits.{EventFits, SetupFits}
 module _ (bytes : List ℕ) (known : Bytes bytes) where
   pub event-fits : {e : Event} → e ≡ eventIn bytes → EventFits e
   event-fits h =
+      let none : 0 < 256 = lit< tt in
       subst EventFits
       (sym h)
       (by-test EventFits (eqb (getD bytes 0 0) 1) _ _ (λ _. known 1)
-      (λ _. by-test EventFits (eqb (getD bytes 0 0) 2) _ _ (λ _. tt) (λ _. by-test EventFits (eqb (getD bytes 0 0) 3) _ _ (λ _. tt) (λ _. tt))))
+      (λ _. by-test EventFits (eqb (getD bytes 0 0) 2) _ _ (λ _. none) (λ _. by-test EventFits (eqb (getD bytes 0 0) 3) _ _ (λ _. none) (λ _. none))))
 
   pub setup-fits : {s : Setup} → s ≡ setupIn bytes → SetupFits s
   setup-fits h = subst SetupFits (sym h) (record { hcnox = known 18; co = known 19 })

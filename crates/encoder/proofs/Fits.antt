@@ -9,15 +9,15 @@ use Rattle.year.specs.declared.Event.the-variants.{Engine, Amendment, NextPerio
 use Rattle.year.specs.Setup.{Hcnox, Co, setupInRange}
 use Rattle.year.specs.Replay.{Progress}
 use Rattle.year.specs.Admissible.{admissible}
-use Rattle.year.proofs.Ranges.{engine-readings}
+use Rattle.year.proofs.Ranges.{admitted-engine}
 use Rattle.year.proofs.Setups.{bounded}
 use Rattle.encoder.specs.Fits.{EventFits, SetupFits}
 
 pub event-fits : (p : Progress) (e : Event) → admissible p e ≡ true → EventFits e
-event-fits p (Engine number readings results) h = omega (arith, engine-readings p number readings results h)
-event-fits p (Amendment standards) h = tt
-event-fits p NextPeriod h = tt
-event-fits p Declaration h = tt
+event-fits p (Engine number readings results) h = omega (arith, admitted-engine p number readings results h .readings)
+event-fits p (Amendment standards) h = omega arith
+event-fits p NextPeriod h = omega arith
+event-fits p Declaration h = omega arith
 
 pub setup-fits : (s : Setup) → setupInRange s ≡ true → SetupFits s
 setup-fits s h =

@@ -16,7 +16,7 @@ use year::Setup;
 // Writes a slot: its kind, the readings, and three numbers of two bytes.
 fn write_slot(part: &mut [u8], kind: u32, readings: u32, numbers: Pair, number: u32)
     requires { ⌜ (length (now part) ≡ 8) × (kind < 256) × (readings < 256) ⌝ }
-    ensures { λ _. ⌜ now (part .exit) ≡ slot kind readings (numbers .hcnox) (numbers .co) number ⌝ }
+    ensures { λ _. ⌜ now (part .exit) ≡ slot (record { kind = kind; readings = readings; first = numbers .hcnox; second = numbers .co; third = number }) ⌝ }
 {
     write_numbers(
         part,

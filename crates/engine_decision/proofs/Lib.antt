@@ -1,2 +1,1 @@
-pub mod Ranging
 pub mod OneEngine

@@ -1,6 +1,6 @@
 -- Laws of the arrays of tested engines: how many engines they say, one pollutant's part, an earlier part, one engine more.
 -- Assumes nothing.
-use mathlib.Core.Path.{_≡_, refl, ap, _∙_}
+use mathlib.Core.Path.{_≡_, refl, sym, ap, _∙_}
 use mathlib.Core.Bool.{Bool, false, _||_}
 use mathlib.Core.List.{List, _∷_}
 use mathlib.Core.Logic.{⊎-elim}
@@ -12,14 +12,14 @@ use lib.Dec.{eqb}
 use lib.ListN.{length, getD, set, length-set}
 use lib.Seq.{getD-set-same, getD-set-other}
 use Rattle.statistics.specs.Spread.{Test}
-use Rattle.statistics.specs.Ranges.{TestsInRange, HistoryInRange}
+use Rattle.statistics.specs.Ranges.{TestsInRange}
 use Rattle.year.specs.declared.Pair.{Pair}
 use Rattle.year.specs.Setup.{Pollutant, Hcnox, Co}
 use Rattle.year.specs.Replay.{Tested, history, isTested}
 use Rattle.figures.specs.declared.Running.{Running}
 use Rattle.figures.specs.Running.{running, RunningInRange}
 use Rattle.engines.specs.declared.Engines.{Engines}
-use Rattle.engines.specs.Engines.{resultsOf, standardsOf, testedAt, testedTo, tested, testsTo, ReworkInRange}
+use Rattle.engines.specs.Engines.{resultsOf, standardsOf, testedAt, testedTo, tested, testsTo, EngineInRange, EnginesInRange, ColumnsInRange}
 use Rattle.engines.proofs.Sized.{Sized}
 
 pub tests-length : (xs ts : List ℕ) (n : ℕ) → length (testsTo xs ts n) ≡ n
@@ -44,6 +44,11 @@ tests-before xs ts (suc n) i h r = ⊎-elim (λ l. tests-before xs ts n i l (r .
 
 joined : {x y : Tested} {xs ys : List Tested} → x ≡ y → xs ≡ ys → x ∷ xs ≡ y ∷ ys
 joined p q = rw (p, q)
+
+-- each number of one engine more is narrow enough for its array
+pub narrow : {e : Engines} {n d : ℕ} {xs ts : Pair} → EngineInRange e n xs ts d
+    → (e .count < 40) × (n ≤ 65535) × (d ≤ 4) × (xs .hcnox ≤ 20000) × (xs .co ≤ 20000) × (ts .hcnox ≤ 20000) × (ts .co ≤ 20000)
+narrow r = (r .place, r .number, r .period, r .results Hcnox, r .results Co, r .standards Hcnox, r .standards Co)
 
 -- one engine more at the next place: the engines before it are kept
 module _ (e : Engines) (number period : ℕ) (results standards : Pair) where
@@ -109,29 +114,32 @@ pub tested-among : (e : Engines) (number i : ℕ) → isTested number (testedTo 
 tested-among e number zero = refl
 tested-among e number (suc i) = ap (λ (b : Bool). eqb (getD (e .numbers) i 0) number || b) (tested-among e number i)
 
--- a pollutant's arrays are in range where its history is
-pub tested-fits : (q : Pollutant) (e : Engines) (k : ℕ) → HistoryInRange 40 (history q (tested e)) → k ≤ 8192
-    → ReworkInRange (resultsOf q e) (standardsOf q e) (e .count) k
-tested-fits q e k r fine = record { history = rw (← tested-history q e (e .count)) r; fine = fine }
+-- of engines in range, each pollutant's arrays are; and the figures worked from them are those of its history
+module _ (q : Pollutant) (e : Engines) (k : ℕ) where
+  pub columns-fit : EnginesInRange e k → ColumnsInRange (resultsOf q e) (standardsOf q e) (e .count) k
+  columns-fit r = record { history = rw (← tested-history q e (e .count)) (r .histories q); fine = r .fine }
+
+  pub reworked : (f : Running) → f ≡ running k (testsTo (resultsOf q e) (standardsOf q e) (e .count)) → f ≡ running k (history q (tested e))
+  reworked f w = w ∙ ap (running k) (sym (tested-history q e (e .count)))
 
 -- figures worked from the arrays: how many engines there are, the ranges of an earlier part, and the room for the newest engine
 module _ (xs ts : List ℕ) (k : ℕ) where
-  pub rework-few : (n : ℕ) → ReworkInRange xs ts n k → n ≤ 40
-  rework-few n r = omega (arith, r .history .few, tests-length xs ts n)
+  pub columns-few : (n : ℕ) → ColumnsInRange xs ts n k → n ≤ 40
+  columns-few n r = omega (arith, r .history .few, tests-length xs ts n)
 
-  pub rework-before : (n i : ℕ) → i ≤ n → ReworkInRange xs ts n k → ReworkInRange xs ts i k
-  rework-before n i h r =
+  pub columns-before : (n i : ℕ) → i ≤ n → ColumnsInRange xs ts n k → ColumnsInRange xs ts i k
+  columns-before n i h r =
       record {
-        history = record { few = omega (arith, rework-few n r, tests-length xs ts i); tests = tests-before xs ts n i h (r .history .tests) };
+        history = record { few = omega (arith, columns-few n r, tests-length xs ts i); tests = tests-before xs ts n i h (r .history .tests) };
         fine = r .fine;
       }
 
-  pub rework-room : (i : ℕ) (f : Running) → ReworkInRange xs ts (suc i) k → f ≡ running k (testsTo xs ts i) → RunningInRange k f (getD xs i 0)
-  rework-room i f r e =
+  pub columns-room : (i : ℕ) (f : Running) → ColumnsInRange xs ts (suc i) k → f ≡ running k (testsTo xs ts i) → RunningInRange k f (getD xs i 0)
+  columns-room i f r e =
       record {
         history = testsTo xs ts i;
         worked = e;
-        inRange = record { few = omega (arith, rework-few (suc i) r, tests-length xs ts i); tests = r .history .tests .2 };
+        inRange = record { few = omega (arith, columns-few (suc i) r, tests-length xs ts i); tests = r .history .tests .2 };
         result = r .history .tests .0;
         fine = r .fine;
       }

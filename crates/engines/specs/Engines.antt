@@ -7,7 +7,7 @@ use Rattle.statistics.specs.Spread.{Test}
 use Rattle.statistics.specs.Ranges.{HistoryInRange}
 use Rattle.year.specs.declared.Pair.{Pair}
 use Rattle.year.specs.Setup.{Pollutant, Hcnox, Co, of}
-use Rattle.year.specs.Replay.{Tested}
+use Rattle.year.specs.Replay.{Tested, history}
 use Rattle.engines.specs.declared.Engines.{Engines}
 
 -- a pollutant's arrays
@@ -50,7 +50,12 @@ pub record EngineInRange (e : Engines) (n : ℕ) (xs ts : Pair) (d : ℕ) : Type
   pub standards : (q : Pollutant) → of q ts ≤ 20000
   pub period : d ≤ 4
 
--- for figures worked from the arrays: up to 40 engines in range, at a resolution of up to 8 × 1,024
-pub record ReworkInRange (results standards : List ℕ) (count k : ℕ) : Type 0 where
+-- for figures and marks worked from the arrays: up to 40 engines in range, at a resolution of up to 8 × 1,024
+pub record EnginesInRange (e : Engines) (k : ℕ) : Type 0 where
+  pub histories : (q : Pollutant) → HistoryInRange 40 (history q (tested e))
+  pub fine : k ≤ 8192
+
+-- the same of one pollutant's two arrays
+pub record ColumnsInRange (results standards : List ℕ) (count k : ℕ) : Type 0 where
   pub history : HistoryInRange 40 (testsTo results standards count)
   pub fine : k ≤ 8192

@@ -3,7 +3,7 @@ ghost use mathlib.Core.Path.{_≡_};
 ghost use Prim.Native.Nat.{_+_, _<_};
 ghost use lib.ListN.{getD};
 ghost use Rattle.figures.specs.Running.{running};
-ghost use Rattle.engines.specs.Engines.{testsTo, ReworkInRange};
+ghost use Rattle.engines.specs.Engines.{testsTo, ColumnsInRange};
 use figures::Running;
 use figures::add;
 use figures::start;
@@ -24,7 +24,7 @@ fn add_at(
     i: usize,
     resolution: u64,
 ) -> Running
-    requires { ⌜ ReworkInRange results standards (i + 1) resolution × (f ≡ running resolution (testsTo results standards i)) ⌝ }
+    requires { ⌜ ColumnsInRange results standards (i + 1) resolution × (f ≡ running resolution (testsTo results standards i)) ⌝ }
     ensures { λ r. ⌜ r ≡ running resolution (testsTo results standards (i + 1)) ⌝ }
 {
     add(
@@ -41,7 +41,7 @@ pub fn running_at(
     count: usize,
     resolution: u64,
 ) -> Running
-    requires { ⌜ ReworkInRange results standards count resolution ⌝ }
+    requires { ⌜ ColumnsInRange results standards count resolution ⌝ }
     ensures { λ r. ⌜ r ≡ running resolution (testsTo results standards count) ⌝ }
 {
     let mut f = start();

@@ -11,14 +11,10 @@ use Rattle.buffers.specs.Bytes.{put, zeros}
 use Rattle.buffers.proofs.Lists.{length-zeros, drop-zeros}
 use Rattle.year.specs.declared.Setup.{Setup}
 use Rattle.year.specs.declared.Event.{Event}
-use Rattle.year.specs.declared.Event.the-variants.{Engine, Amendment, NextPeriod, Declaration}
 use Rattle.journal.specs.Encode.{header, slotOf, slots, encode, slotPlace, append}
 
 pub length-slot : (e : Event) → length (slotOf e) ≡ 8
-length-slot (Engine number readings results) = refl
-length-slot (Amendment standards) = refl
-length-slot NextPeriod = refl
-length-slot Declaration = refl
+length-slot e = refl
 
 pub length-slots : (es : List Event) → length (slots es) ≡ 8 * length es
 length-slots [] = refl

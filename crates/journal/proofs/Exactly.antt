@@ -1,7 +1,7 @@
 -- A buffer is accepted exactly if its parts are as document 01 says: size, header, number of events, events in their order, unused slots.
 -- Assumes nothing.
 use mathlib.Core.Path.{_≡_, refl, sym, ap, _∙_}
-use mathlib.Core.Bool.{Bool, true, false, cond, _&&_, and-true, and-assoc, and-eq-true-iff}
+use mathlib.Core.Bool.{Bool, true, false, cond, _&&_, and-true, and-false, and-assoc, and-eq-true-iff}
 use mathlib.Core.List.{List, _++_}
 use Prim.Native.Nat.{ℕ, zero, suc, _+_, _-_, _*_, _≤_}
 use native.Mathlib.Omega.{arith}
@@ -90,11 +90,7 @@ module _ (journal : List ℕ) where
     where
       moved : (h s z v : Bool) → (((h && s) && z) && v) ≡ ((h && z) && (s && v))
       moved false s z v = refl
-      moved true false z v = none z
-        where
-          none : (z : Bool) → false ≡ (z && false)
-          none true = refl
-          none false = refl
+      moved true false z v = sym (and-false z)
       moved true true true v = refl
       moved true true false v = refl
 

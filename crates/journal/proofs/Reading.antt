@@ -7,7 +7,6 @@ use Prim.Native.Nat.{ℕ, _*_, _<_}
 use native.Mathlib.Omega.{arith}
 use lib.ListN.{length, getD, drop}
 use lib.Seq.{drop-at, drop-drop}
-use borrow.Author.Tests.{leb-true}
 use Rattle.buffers.specs.Bytes.{same}
 use Rattle.buffers.proofs.LittleEndian.{from-two, from-four}
 use Rattle.buffers.proofs.Same.{same-refl, same-equal}
@@ -20,9 +19,9 @@ use Rattle.year.specs.Admissible.{admissible, valid}
 use Rattle.year.specs.Model.{NoSetup, Year}
 use Rattle.year.proofs.Replayed.{replay-stored}
 use Rattle.year.proofs.Valid.{valid-before, valid-newest, valid-next}
-use Rattle.year.proofs.Ranges.{standard-le, engine-number, engine-results, not-full, fitting}
+use Rattle.year.proofs.Ranges.{standard-le, admitted-engine, not-full, fitting}
 use Rattle.year.proofs.Setups.{bounded}
-use Rattle.journal.specs.Encode.{slotOf, slots, encode, slotPlace, append}
+use Rattle.journal.specs.Encode.{fieldsOf, slotOf, slots, encode, slotPlace, append}
 use Rattle.journal.specs.Read.{setupIn, eventIn, eventsIn, readAs, readJournal}
 use Rattle.journal.specs.OneJournal.{Stores}
 use Rattle.journal.proofs.Encoded.{length-slots, append-encode}
@@ -31,24 +30,17 @@ use Rattle.journal.proofs.Encoded.{length-slots, append-encode}
 
 -- what a slot holds in two bytes fits them
 abbrev Fits : Event → Type 0
-Fits (Engine number readings results) = (results .hcnox < 65536) × (results .co < 65536) × (number < 65536)
-Fits (Amendment standards) = (standards .hcnox < 65536) × (standards .co < 65536)
-Fits NextPeriod = Unit {0}
-Fits Declaration = Unit {0}
+Fits e = (fieldsOf e .first < 65536) × (fieldsOf e .second < 65536) × (fieldsOf e .third < 65536)
 
 admissible-fits : (p : Progress) (e : Event) → admissible p e ≡ true → Fits e
 admissible-fits p (Engine number readings results) h =
-    let a = leb-true (results .hcnox) 20000 (engine-results p number readings results h Hcnox) in
-    let b = leb-true (results .co) 20000 (engine-results p number readings results h Co) in
-    let c = engine-number p number readings results h in
-    omega arith
+    let r = admitted-engine p number readings results h in
+    omega (arith, r .results Hcnox, r .results Co)
 admissible-fits p (Amendment standards) h =
     let f = fitting p (Amendment standards) h in
-    let a = standard-le standards f Hcnox in
-    let b = standard-le standards f Co in
-    omega arith
-admissible-fits p NextPeriod h = tt
-admissible-fits p Declaration h = tt
+    omega (arith, standard-le standards f Hcnox, standard-le standards f Co)
+admissible-fits p NextPeriod h = omega arith
+admissible-fits p Declaration h = omega arith
 
 event-back : (e : Event) (rest : List ℕ) → Fits e → eventIn (slotOf e ++ rest) ≡ e
 event-back (Engine number readings results) rest h = rw (from-two (results .hcnox) (h .0), from-two (results .co) (h .1), from-two number (h .2))

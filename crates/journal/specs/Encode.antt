@@ -23,20 +23,31 @@ header s count =
     -- 24 number of events; 25–31 zero
     ++ (count ∷ zeros 7)
 
--- the eight bytes of a slot: 0 the kind, 1 readings per pollutant, and the numbers at 2–3, 4–5 and 6–7
-abbrev pub slot : ℕ → ℕ → ℕ → ℕ → ℕ → List ℕ
-slot kind readings a b c = (kind ∷ readings ∷ []) ++ bytes16 a ++ bytes16 b ++ bytes16 c
+-- what a slot holds: the kind, readings per pollutant, and three numbers of two bytes
+pub record Fields : Type 0 where
+  pub kind : ℕ
+  pub readings : ℕ
+  pub first : ℕ
+  pub second : ℕ
+  pub third : ℕ
 
 -- "Unnamed bytes .. are zero."
-abbrev pub slotOf : Event → List ℕ
+abbrev pub fieldsOf : Event → Fields
 -- 1, engine: byte 1 readings per pollutant, 2–3 and 4–5 the results, 6–7 the engine number
-slotOf (Engine number readings results) = slot 1 readings (results .hcnox) (results .co) number
+fieldsOf (Engine number readings results) = record { kind = 1; readings = readings; first = results .hcnox; second = results .co; third = number }
 -- 2, amendment: 2–3 and 4–5 the new standards
-slotOf (Amendment standards) = slot 2 0 (standards .hcnox) (standards .co) 0
+fieldsOf (Amendment standards) = record { kind = 2; readings = 0; first = standards .hcnox; second = standards .co; third = 0 }
 -- 3, next period
-slotOf NextPeriod = slot 3 0 0 0 0
+fieldsOf NextPeriod = record { kind = 3; readings = 0; first = 0; second = 0; third = 0 }
 -- 4, declaration
-slotOf Declaration = slot 4 0 0 0 0
+fieldsOf Declaration = record { kind = 4; readings = 0; first = 0; second = 0; third = 0 }
+
+-- the eight bytes of a slot: 0 the kind, 1 the readings, 2–3, 4–5 and 6–7 the numbers
+abbrev pub slot : Fields → List ℕ
+slot f = (f .kind ∷ f .readings ∷ []) ++ bytes16 (f .first) ++ bytes16 (f .second) ++ bytes16 (f .third)
+
+abbrev pub slotOf : Event → List ℕ
+slotOf e = slot (fieldsOf e)
 
 -- the slots in the order of entry
 abbrev pub slots : List Event → List ℕ

@@ -20,8 +20,8 @@ use Rattle.cumsum.specs.Marks.{compared, mark, markByte}
 use Rattle.figures.specs.declared.Running.{Running}
 use Rattle.figures.specs.Running.{running, NextInRange, RunningInRange}
 use Rattle.figures.proofs.OneMore.{running-sums, later, sums-in-range, deviation-fits, next-fits, limit-fits}
-use Rattle.engines.specs.Engines.{testsTo, ReworkInRange}
-use Rattle.engines.proofs.Arrays.{tests-length, rework-few, rework-room}
+use Rattle.engines.specs.Engines.{testsTo, ColumnsInRange}
+use Rattle.engines.proofs.Arrays.{tests-length, columns-few, columns-room}
 use Rattle.printing.specs.Columns.{MarkedTo}
 
 -- the engine at a place
@@ -39,7 +39,7 @@ pub record Carried (k : ℕ) (xs ts : List ℕ) (i : ℕ) (column : List ℕ) (s
 pub carried-start : (k : ℕ) (xs ts : List ℕ) (s : Sums) → s ≡ sums [] → Carried k xs ts 0 (replicate 40 (byte "-")) s (record { low = 0; high = 0 })
 carried-start k xs ts s e = record { summed = e; totalled = refl; places = refl; first = refl; marked = λ i h. absurd (omega arith) }
 
-module _ {k : ℕ} {xs ts : List ℕ} {i : ℕ} {column : List ℕ} {s : Sums} {c : Interval} (w : Carried k xs ts i column s c) (fits : ReworkInRange xs ts (i + 1) k) where
+module _ {k : ℕ} {xs ts : List ℕ} {i : ℕ} {column : List ℕ} {s : Sums} {c : Interval} (w : Carried k xs ts i column s c) (fits : ColumnsInRange xs ts (i + 1) k) where
   -- the figures of the engines before, of which only the sums and C are carried
   abbrev before : Running
   before = running k (testsTo xs ts i)
@@ -47,11 +47,11 @@ module _ {k : ℕ} {xs ts : List ℕ} {i : ℕ} {column : List ℕ} {s : Sums} {
   -- the place, and the engine there
   pub in-range : (i < 40) × (getD xs i 0 ≤ 20000) × (getD ts i 0 ≤ 20000)
   in-range =
-      let r : ReworkInRange xs ts (suc i) k = rw (add-one) at fits in
-      (rework-few xs ts k (suc i) r, r .history .tests .0, r .history .tests .1)
+      let r : ColumnsInRange xs ts (suc i) k = rw (add-one) at fits in
+      (columns-few xs ts k (suc i) r, r .history .tests .0, r .history .tests .1)
 
   room : RunningInRange k before (getD xs i 0)
-  room = rework-room xs ts k i before (rw (add-one) at fits) refl
+  room = columns-room xs ts k i before (rw (add-one) at fits) refl
 
   pub sums-room : SumsInRange s (getD xs i 0)
   unfolding running

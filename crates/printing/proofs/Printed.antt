@@ -14,22 +14,17 @@ use Rattle.year.specs.Replay.{history}
 use Rattle.year.specs.Status.{printedMarks}
 use Rattle.year.proofs.Kept.{printed-length}
 use Rattle.engines.specs.declared.Engines.{Engines}
-use Rattle.engines.specs.Engines.{resultsOf, standardsOf, testedTo, ReworkInRange}
-use Rattle.engines.proofs.Arrays.{tested-length, tested-history, tested-fits, rework-few}
+use Rattle.engines.specs.Engines.{resultsOf, standardsOf, testedTo, EnginesInRange}
+use Rattle.engines.proofs.Arrays.{tested-length, tested-history, columns-fit, columns-few}
 use Rattle.printing.specs.Columns.{MarkedTo}
-use Rattle.printing.specs.Ranges.{MarksInRange}
 
 module _ (k : ℕ) (e : Engines) where
   -- the bytes of the marks of the engines before a place
   abbrev pub bytesTo : ℕ → List ℕ
   bytesTo i = map markByte (printedMarks judged k (testedTo e i))
 
-  -- the ranges, and how many engines there are
-  pub fits : MarksInRange e k → (q : Pollutant) → ReworkInRange (resultsOf q e) (standardsOf q e) (e .count) k
-  fits m q = tested-fits q e k (m .histories q) (m .fine)
-
-  pub few : MarksInRange e k → e .count ≤ 40
-  few m = rework-few (resultsOf Hcnox e) (standardsOf Hcnox e) k (e .count) (fits m Hcnox)
+  pub few : EnginesInRange e k → e .count ≤ 40
+  few r = columns-few (resultsOf Hcnox e) (standardsOf Hcnox e) k (e .count) (columns-fit Hcnox e k r)
 
   -- a pollutant's column of marks, and the byte of an engine in it
   abbrev pub ColumnOf : Pollutant → List ℕ → Type 0

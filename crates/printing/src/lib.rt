@@ -7,9 +7,8 @@ ghost use Rattle.buffers.specs.Bytes.{put};
 ghost use Rattle.cumsum.specs.Marks.{markByte};
 ghost use Rattle.year.specs.Setup.{judged};
 ghost use Rattle.year.specs.Status.{printedMarks};
-ghost use Rattle.engines.specs.Engines.{tested, ReworkInRange};
+ghost use Rattle.engines.specs.Engines.{tested, EnginesInRange, ColumnsInRange};
 ghost use Rattle.printing.specs.Columns.{MarkedTo};
-ghost use Rattle.printing.specs.Ranges.{MarksInRange};
 use cumsum::Interval;
 use engines::Engines;
 use estimates::summing::add_result;
@@ -23,7 +22,7 @@ use figures::marking::mark_byte;
 // The marks of one pollutant's engines as bytes, at any resolution. Only the sums and C go on from engine to engine: a mark needs no more, and all figures would
 // be copied by value at each engine.
 fn mark_column(results: [u16; 40], standards: [u16; 40], count: usize, resolution: u64) -> [u8; 40]
-    requires { ⌜ ReworkInRange results standards count resolution ⌝ }
+    requires { ⌜ ColumnsInRange results standards count resolution ⌝ }
     ensures { λ r. ⌜ MarkedTo resolution results standards count r ⌝ }
 {
     let mut column = [b'-'; 40];
@@ -55,7 +54,7 @@ fn print_pair(out: &mut [u8], place: usize, hcnox: u8, co: u8)
 
 // Writes the marks of all engines at the front of a lent buffer, in the order of entry. The rest of the buffer stays.
 pub fn print_marks(engines: Engines, resolution: u64, out: &mut [u8])
-    requires { ⌜ MarksInRange engines resolution × (2 * engines .count ≤ length (now out)) ⌝ }
+    requires { ⌜ EnginesInRange engines resolution × (2 * engines .count ≤ length (now out)) ⌝ }
     ensures { λ _. ⌜ now (out .exit) ≡ put (now (out .entry)) 0 (map markByte (printedMarks judged resolution (tested engines))) ⌝ }
 {
     let hcnox_results = engines.hcnox_results;

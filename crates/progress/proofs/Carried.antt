@@ -1,6 +1,6 @@
 -- What is carried beside the year, taken apart: the number of engines, and each pollutant's figures with their ranges.
 -- Assumes nothing.
-use mathlib.Core.Path.{_≡_, sym, ap, _∙_}
+use mathlib.Core.Path.{_≡_, ap}
 use mathlib.Core.Bool.{true}
 use Prim.Native.Nat.{ℕ, _≤_, _<_}
 use native.Mathlib.Omega.{arith}
@@ -12,19 +12,24 @@ use Rattle.year.specs.Setup.{Pollutant, Hcnox, Co, of}
 use Rattle.year.specs.Replay.{history}
 use Rattle.year.specs.Admissible.{admissible}
 use Rattle.year.proofs.Replayed.{history-length}
-use Rattle.year.proofs.Ranges.{standard-le, tested-in-le, engine-number, engine-room, engine-results}
+use Rattle.year.proofs.Ranges.{standard-le, tested-in-le, admitted-engine}
 use Rattle.figures.specs.declared.Running.{Running}
 use Rattle.figures.specs.Running.{running, RunningInRange, Worked}
-use Rattle.engines.specs.Engines.{resultsOf, standardsOf, tested, testsTo, EngineInRange, ReworkInRange}
-use Rattle.engines.proofs.Arrays.{tested-length, tested-history, tested-fits}
+use Rattle.engines.specs.Engines.{tested, EngineInRange}
+use Rattle.engines.proofs.Arrays.{tested-length}
 use Rattle.progress.specs.declared.Progress.{Progress as State}
 use Rattle.progress.specs.State.{shown, Consistent}
-use borrow.Author.Tests.{leb-true}
 
 -- a pollutant's figures of a state
 abbrev pub figuresOf : Pollutant → State → Running
 figuresOf Hcnox p = p .hcnox
 figuresOf Co p = p .co
+
+-- room for an engine: its place and its numbers in the arrays, one more of the current period, and its results in the figures
+pub record Room (p : State) (number : ℕ) (results : Pair) : Type 0 where
+  pub engine : EngineInRange (p .engines) number results (p .standards) (p .period)
+  pub current : p .current ≤ 40
+  pub figures : (q : Pollutant) → RunningInRange 1024 (figuresOf q p) (of q results)
 
 module _ (p : State) (c : Consistent p) where
   pub counted : length (tested (p .engines)) ≡ p .engines .count
@@ -33,10 +38,7 @@ module _ (p : State) (c : Consistent p) where
   pub count-le : p .engines .count ≤ 40
   count-le = omega (arith, c .inRange .histories Hcnox .few, history-length Hcnox (tested (p .engines)), counted)
 
-  pub current-le : p .current ≤ 40
-  current-le = omega (arith, c .current, tested-in-le (p .period) (tested (p .engines)), count-le, counted)
-
-  pub carried : (q : Pollutant) → figuresOf q p ≡ running 1024 (history q (tested (p .engines)))
+  carried : (q : Pollutant) → figuresOf q p ≡ running 1024 (history q (tested (p .engines)))
   carried Hcnox = c .figures .hcnox
   carried Co = c .figures .co
 
@@ -53,40 +55,20 @@ module _ (p : State) (c : Consistent p) where
     unfolding running
     undecided-is = ap (λ (g : Running). g .undecided) e
 
-  -- the figures worked from the arrays: the ranges are met, and they are the year's
-  module _ (k : ℕ) (q : Pollutant) where
-    pub rework-fits : k ≤ 8192 → ReworkInRange (resultsOf q (p .engines)) (standardsOf q (p .engines)) (p .engines .count) k
-    rework-fits fine = tested-fits q (p .engines) k (c .inRange .histories q) fine
-
-    pub reworked : (f : Running) → f ≡ running k (testsTo (resultsOf q (p .engines)) (standardsOf q (p .engines)) (p .engines .count))
-        → f ≡ running k (history q (tested (p .engines)))
-    reworked f e = e ∙ ap (running k) (sym (tested-history q (p .engines) (p .engines .count)))
-
-  -- one result more in the figures, where there is a place
-  pub add-fits : (q : Pollutant) (x : ℕ) → p .engines .count < 40 → x ≤ 20000 → RunningInRange 1024 (figuresOf q p) x
-  add-fits q x place le =
+  -- an engine that could be entered has room
+  pub room : (number readings : ℕ) (results : Pair) → admissible (shown p) (Engine number readings results) ≡ true → Room p number results
+  room number readings results h =
+      let a = admitted-engine (shown p) number readings results h in
+      let place : p .engines .count < 40 = omega (arith, a .room, counted) in
       record {
-        history = history q (tested (p .engines));
-        worked = carried q;
-        inRange = record { few = omega (arith, place, history-length q (tested (p .engines)), counted); tests = c .inRange .histories q .tests };
-        result = le;
-        fine = omega arith;
+        engine = record { place = place; number = a .number; results = a .results; standards = standard-le (p .standards) (c .inRange .standards); period = c .inRange .period };
+        current = omega (arith, c .current, tested-in-le (p .period) (tested (p .engines)), counted);
+        figures = λ q.
+            record {
+              history = history q (tested (p .engines));
+              worked = carried q;
+              inRange = record { few = omega (arith, place, history-length q (tested (p .engines)), counted); tests = c .inRange .histories q .tests };
+              result = a .results q;
+              fine = omega arith;
+            };
       }
-
-  -- an engine that could be entered: it has a place, its numbers fit, and there is room in the figures
-  module _ (number readings : ℕ) (results : Pair) (h : admissible (shown p) (Engine number readings results) ≡ true) where
-    pub place : p .engines .count < 40
-    place = omega (arith, engine-room (shown p) number readings results h, counted)
-
-    pub engine-fits : EngineInRange (p .engines) number results (p .standards) (p .period)
-    engine-fits =
-        record {
-          place = place;
-          number = engine-number (shown p) number readings results h;
-          results = λ q. leb-true _ _ (engine-results (shown p) number readings results h q);
-          standards = standard-le (p .standards) (c .inRange .standards);
-          period = c .inRange .period;
-        }
-
-    pub result-fits : (q : Pollutant) → RunningInRange 1024 (figuresOf q p) (of q results)
-    result-fits q = add-fits q (of q results) place (engine-fits .results q)

@@ -1,3 +1,2 @@
 pub mod Carried
 pub mod Steps
-pub mod Reached

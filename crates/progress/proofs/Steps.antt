@@ -2,15 +2,17 @@
 -- Assumes nothing.
 use mathlib.Core.Path.{_≡_, refl, sym, subst}
 use mathlib.Core.Bool.{Bool, true, false}
-use mathlib.Core.List.{[], _∷_}
+use mathlib.Core.List.{List, [], _∷_}
 use Prim.Native.Nat.{ℕ, _+_}
 use native.Mathlib.Omega.{arith}
 use borrow.Author.Tests.{eq-eqb}
+use Rattle.statistics.specs.Spread.{Test}
 use Rattle.year.specs.declared.Pair.{Pair}
 use Rattle.year.specs.declared.Setup.{Setup}
+use Rattle.year.specs.declared.Event.{Event}
 use Rattle.year.specs.declared.Event.the-variants.{Engine, Amendment, NextPeriod, Declaration}
-use Rattle.year.specs.Setup.{Hcnox, Co, setupInRange}
-use Rattle.year.specs.Replay.{Progress, start, after, history}
+use Rattle.year.specs.Setup.{setupInRange}
+use Rattle.year.specs.Replay.{Progress, start, after, testedIn}
 use Rattle.year.specs.Admissible.{admissible}
 use Rattle.year.specs.Ranges.{InRange}
 use Rattle.year.proofs.Ranges.{start-in-range, after-in-range, none-in-next}
@@ -19,7 +21,7 @@ use Rattle.figures.specs.Running.{running}
 use Rattle.engines.specs.declared.Engines.{Engines}
 use Rattle.engines.specs.Engines.{tested}
 use Rattle.progress.specs.declared.Progress.{Progress as State}
-use Rattle.progress.specs.State.{shown, Consistent}
+use Rattle.progress.specs.State.{shown, Figured, Consistent}
 
 -- the state stands for this year, and is consistent
 abbrev pub Stands : State → Progress → Type 0
@@ -54,30 +56,27 @@ changed p standards period declared current =
     }
 
 module _ (p : State) (c : Consistent p) where
+  -- a state that shows the year with one event more stands for it, if its period's engines are counted and its figures worked
+  stepped : (e : Event) → admissible (shown p) e ≡ true → (s : State) → shown s ≡ after e (shown p)
+      → s .current ≡ testedIn (s .period) (tested (s .engines)) → Figured 1024 (s .engines) (s .hcnox) (s .co) → Stands s (after e (shown p))
+  stepped e a s is n f = (is, record { inRange = subst InRange (sym is) (after-in-range e (shown p) (c .inRange) a); current = n; figures = f })
+
   pub amended : (t : Pair) → admissible (shown p) (Amendment t) ≡ true
       → Stands (changed p t (p .period) (p .declared) (p .current)) (after (Amendment t) (shown p))
-  amended t h =
-      (refl, record { inRange = after-in-range (Amendment t) (shown p) (c .inRange) h; current = c .current; figures = record { hcnox = c .figures .hcnox; co = c .figures .co } })
+  amended t a = stepped (Amendment t) a _ refl (c .current) (c .figures)
 
   pub next-period : admissible (shown p) NextPeriod ≡ true → Stands (changed p (p .standards) (p .period + 1) (p .declared) 0) (after NextPeriod (shown p))
-  next-period h = (
-    refl,
-    record {
-      inRange = after-in-range NextPeriod (shown p) (c .inRange) h;
-      current = sym (none-in-next (p .period) (tested (p .engines)) (c .inRange .periods));
-      figures = record { hcnox = c .figures .hcnox; co = c .figures .co };
-    },
-  )
+  next-period a = stepped NextPeriod a _ refl (sym (none-in-next (p .period) (tested (p .engines)) (c .inRange .periods))) (c .figures)
 
   pub declared : admissible (shown p) Declaration ≡ true → Stands (changed p (p .standards) (p .period) true (p .current)) (after Declaration (shown p))
-  declared h =
-      (refl, record { inRange = after-in-range Declaration (shown p) (c .inRange) h; current = c .current; figures = record { hcnox = c .figures .hcnox; co = c .figures .co } })
+  declared a = stepped Declaration a _ refl (c .current) (c .figures)
 
+  -- an engine, once it is among the tested and its results are added to the figures
   pub engine : (number readings : ℕ) (results : Pair) (e : Engines) (h o : Running)
       → admissible (shown p) (Engine number readings results) ≡ true
       → tested e ≡ record { number = number; results = results; standards = p .standards; period = p .period } ∷ tested (p .engines)
-      → h ≡ running 1024 (record { result = results .hcnox; standard = p .standards .hcnox } ∷ history Hcnox (tested (p .engines)))
-      → o ≡ running 1024 (record { result = results .co; standard = p .standards .co } ∷ history Co (tested (p .engines)))
+      → ((xs : List Test) → p .hcnox ≡ running 1024 xs → h ≡ running 1024 (record { result = results .hcnox; standard = p .standards .hcnox } ∷ xs))
+      → ((xs : List Test) → p .co ≡ running 1024 xs → o ≡ running 1024 (record { result = results .co; standard = p .standards .co } ∷ xs))
       → Stands
       record {
         setup = p .setup;
@@ -91,15 +90,6 @@ module _ (p : State) (c : Consistent p) where
         co = o;
       }
       (after (Engine number readings results) (shown p))
-  engine number readings results e h o a te eh eo = (
-    stands,
-    record {
-      inRange = subst InRange (sym stands) (after-in-range (Engine number readings results) (shown p) (c .inRange) a);
-      current = rw (te, eq-eqb (p .period) (p .period) refl) (omega (arith, c .current));
-      figures = record { hcnox = rw te eh; co = rw te eo };
-    },
-  )
-    where
-      stands : record { setup = p .setup; standards = p .standards; period = p .period; tested = tested e; stored = p .stored + 1; declared = p .declared }
-          ≡ after (Engine number readings results) (shown p)
-      stands = rw te
+  engine number readings results e h o a te eh eo =
+      stepped (Engine number readings results) a _ (rw te) (rw (te, eq-eqb (p .period) (p .period) refl) (omega (arith, c .current)))
+      (record { hcnox = rw te (eh _ (c .figures .hcnox)); co = rw te (eo _ (c .figures .co)) })

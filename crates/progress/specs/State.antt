@@ -1,12 +1,13 @@
 -- What the state of the code says, in the words of the definitions, and what it carries beside it so that nothing is worked twice.
 -- Assumes nothing.
 use mathlib.Core.Path.{_≡_}
-use Prim.Native.Nat.{ℕ, _≤_}
+use Prim.Native.Nat.{ℕ}
 use Rattle.year.specs.Setup.{Hcnox, Co}
 use Rattle.year.specs.Replay.{Progress, history, testedIn}
 use Rattle.year.specs.Ranges.{InRange}
 use Rattle.figures.specs.declared.Running.{Running}
 use Rattle.figures.specs.Running.{running}
+use Rattle.engines.specs.declared.Engines.{Engines}
 use Rattle.engines.specs.Engines.{tested}
 use Rattle.progress.specs.declared.Progress.{Progress as State}
 
@@ -22,25 +23,20 @@ shown p =
       declared = p .declared;
     }
 
--- two pollutants' figures are those of the year at resolution k
-pub record Figured (k : ℕ) (p : State) (h o : Running) : Type 0 where
-  pub hcnox : h ≡ running k (history Hcnox (tested (p .engines)))
-  pub co : o ≡ running k (history Co (tested (p .engines)))
+-- two pollutants' figures are those of the tested engines at resolution k
+pub record Figured (k : ℕ) (e : Engines) (h o : Running) : Type 0 where
+  pub hcnox : h ≡ running k (history Hcnox (tested e))
+  pub co : o ≡ running k (history Co (tested e))
 
 -- the year is in range, and what is carried beside it is what is worked from it: the engines of the current period, and the figures of both pollutants
 -- at resolution 1,024
 pub record Consistent (p : State) : Type 0 where
   pub inRange : InRange (shown p)
   pub current : p .current ≡ testedIn (p .period) (tested (p .engines))
-  pub figures : Figured 1024 p (p .hcnox) (p .co)
+  pub figures : Figured 1024 (p .engines) (p .hcnox) (p .co)
 
 -- for a verdict by other figures: they are the year's at some resolution
 pub record Judged (p : State) (h o : Running) : Type 0 where
   pub consistent : Consistent p
   pub resolution : ℕ
-  pub figures : Figured resolution p h o
-
--- for figures worked anew: at a resolution of up to 8 × 1,024
-pub record ReworkInRange (p : State) (k : ℕ) : Type 0 where
-  pub consistent : Consistent p
-  pub fine : k ≤ 8192
+  pub figures : Figured resolution (p .engines) h o

@@ -55,7 +55,7 @@ fn engine(p: Progress, number: u32, readings: u32, results: Pair) -> Progress
     }
 }
 
-// One event more that could be entered.
+// One event more that could be entered. `enter_slots` of the crate scan takes the same step in place, its arms in the same order: a change of one is a change of both.
 pub fn after(p: Progress, e: Event) -> Progress
     requires { ⌜ Consistent p × (admissible (shown p) e ≡ true) ⌝ }
     ensures { λ r. ⌜ shown r ≡ after e (shown p) ⌝ }

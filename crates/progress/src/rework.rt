@@ -3,8 +3,7 @@ ghost use mathlib.Core.Path.{_≡_};
 ghost use Rattle.year.specs.Setup.{Hcnox, Co};
 ghost use Rattle.year.specs.Replay.{history};
 ghost use Rattle.figures.specs.Running.{running};
-ghost use Rattle.engines.specs.Engines.{tested};
-ghost use Rattle.progress.specs.State.{ReworkInRange};
+ghost use Rattle.engines.specs.Engines.{tested, EnginesInRange};
 use crate::Progress;
 use engines::rework::running_at;
 use figures::Running;
@@ -16,7 +15,7 @@ pub struct Reworked {
 }
 
 pub fn rework(p: Progress, resolution: u64) -> Reworked
-    requires { ⌜ ReworkInRange p resolution ⌝ }
+    requires { ⌜ EnginesInRange (p .engines) resolution ⌝ }
     ensures { λ r. ⌜ r .hcnox ≡ running resolution (history Hcnox (tested (p .engines))) ⌝ }
     ensures { λ r. ⌜ r .co ≡ running resolution (history Co (tested (p .engines))) ⌝ }
 {

@@ -12,8 +12,7 @@ use Rattle.year.specs.Status.{status, printedMarks}
 use Rattle.year.specs.Model.{noSetup}
 use Rattle.progress.specs.State.{shown, Consistent}
 use Rattle.progress.proofs.Carried.{count-le, counted}
-use Rattle.engines.specs.Engines.{tested}
-use Rattle.printing.specs.Ranges.{MarksInRange}
+use Rattle.engines.specs.Engines.{tested, EnginesInRange}
 use Rattle.journal.specs.Read.{readJournal}
 use Rattle.scan.specs.declared.Scanned.{Scanned}
 use Rattle.scan.specs.Scan.{Tells}
@@ -64,7 +63,7 @@ module _ (journal : List ℕ) (scanned : Scanned) (t : Tells scanned (readJourna
       pub marks-room : 2 * scanned .progress .engines .count ≤ length out
       marks-room = rw (mark-bytes (readJournal journal), engines) at (out-fits Marks journal (length out) h)
 
-      pub marks-range : (k : ℕ) → k ≤ 8192 → MarksInRange (scanned .progress .engines) k
+      pub marks-range : (k : ℕ) → k ≤ 8192 → EnginesInRange (scanned .progress .engines) k
       marks-range k fine = record { histories = consistent .inRange .histories; fine = fine }
 
       part : outPart Marks journal out ≡ outBytes Marks (readJournal journal)

@@ -21,6 +21,7 @@ use Rattle.journal.specs.Read.{setupIn, eventIn, eventsIn}
 use Rattle.journal.specs.Acceptance.{isSlot, entersAt, entersUpTo}
 use Rattle.progress.specs.declared.Progress.{Progress as State}
 use Rattle.progress.specs.State.{shown, Consistent}
+use Rattle.progress.proofs.Steps.{Stands}
 use Rattle.scan.specs.Scan.{Tells, Entered, entered}
 
 -- where one slot does not enter, the slots up to a later one do not
@@ -51,7 +52,7 @@ module _ (journal : List ℕ) (n : ℕ) where
   all-entered h = rw h
 
   -- a slot that does not enter ends it
-  stopped : (j : ℕ) → j < n → entersAt journal j ≡ false → entered journal n ≡ NoSetup
+  pub stopped : (j : ℕ) → j < n → entersAt journal j ≡ false → entered journal n ≡ NoSetup
   stopped j l f = none-entered (both-fail (setupInRange (setupIn journal)) (entersUpTo journal n) (later journal j n l f))
 
   -- the last slot was entered
@@ -73,26 +74,31 @@ module _ (journal : List ℕ) (s : Setup) (r : Bool) (e : s ≡ setupIn journal)
   pub started : (p : State) → r ≡ true → shown p ≡ start s → (setupInRange s ≡ true → Consistent p) → Entered journal 0 p
   started p h g c = record { setup = setup-is ∙ h; enters = refl; stands = g ∙ ap start e; consistent = c (sym t ∙ h) }
 
--- ---- one slot: what the code found of its part
+-- ---- one slot
 
 module _ (journal : List ℕ) (j : ℕ) (p : State) (u : Entered journal j p) where
   abbrev part : List ℕ
   part = take (length journal - slotPlace j) (drop (slotPlace j) journal)
 
-  module _ (e : Event) (slot fits : Bool) (he : e ≡ eventIn part) (hs : slot ≡ isSlot part) (hf : fits ≡ admissible (shown p) e) where
-    slot-is : (slot && fits) ≡ entersAt journal j
+  -- what the code finds of it: the event, and whether it enters
+  pub found : (e : Event) (slot fits both : Bool) → e ≡ eventIn part → slot ≡ isSlot part → fits ≡ admissible (shown p) e → both ≡ (slot && fits)
+      → (e ≡ eventIn (drop (slotPlace j) journal)) × (both ≡ entersAt journal j)
+  unfolding entersAt
+  found e slot fits both he hs hf hb = let rest = part-from journal (slotPlace j) in (rw (← rest) he, rw (hb, hs, hf, he, rest, u .stands))
+
+  -- an event that enters is admissible, and a state that stands for the year with it is the next
+  module _ (e : Event) (he : e ≡ eventIn (drop (slotPlace j) journal)) (t : entersAt journal j ≡ true) where
+    pub admitted : admissible (shown p) e ≡ true
     unfolding entersAt
-    slot-is = rw (hs, hf, he, part-from journal (slotPlace j), u .stands)
+    admitted = rw (he, u .stands) (and-eq-true-iff (isSlot (drop (slotPlace j) journal)) (admissible _ _) .0 t .1)
 
-    pub no-entry : (n : ℕ) → j < n → (slot && fits) ≡ false → entered journal n ≡ NoSetup
-    no-entry n l t = stopped journal n j l (sym slot-is ∙ t)
-
-    pub entry : (q : State) → (slot && fits) ≡ true → shown q ≡ after e (shown p) → Consistent q → Entered journal (j + 1) q
-    entry q t s c =
+    pub entry : (q : State) → (admissible (shown p) e ≡ true → Stands q (after e (shown p))) → Entered journal (j + 1) q
+    entry q law =
+        let next = law admitted in
         rw (add-one j)
         (record {
           setup = u .setup;
-          enters = and-eq-true-iff (entersUpTo journal j) (entersAt journal j) .1 (u .enters, sym slot-is ∙ t);
-          stands = s ∙ rw (he, part-from journal (slotPlace j), u .stands);
-          consistent = c;
+          enters = and-eq-true-iff (entersUpTo journal j) (entersAt journal j) .1 (u .enters, t);
+          stands = next .0 ∙ rw (he, u .stands);
+          consistent = next .1;
         })

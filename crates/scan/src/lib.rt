@@ -50,8 +50,9 @@ fn no_journal() -> Scanned
     }
 }
 
-// The events of the slots entered one after another, from the state of a setup alone. It is `after` of the crate progress for each of them, but the state is changed
-// in place and its engines stand apart: to hand the whole on by value at every event costs more than the work.
+// The events of the slots entered one after another, from the state of a setup alone. It is `after` of the crate progress for each of them, its arms in the
+// same order, but the state is changed in place and its engines stand apart: to hand the whole on by value at every event costs more than the work. A change of one
+// is a change of both.
 fn enter_slots(journal: &[u8], count: usize, first: Progress) -> Scanned
     requires { ⌜ (length (now journal) ≡ 544) × (count ≤ 64) × Entered (now journal) 0 first ⌝ }
     ensures { λ r. ⌜ Tells r (entered (now (journal .entry)) count) ⌝ }

@@ -61,7 +61,7 @@ pub fn is_short(current: u32, period: u32) -> bool
 // The verdict by the figures of both pollutants, worked at one resolution.
 pub fn verdict_by(p: Progress, hcnox: Running, co: Running) -> u8
     requires { ⌜ Judged p hcnox co ⌝ }
-    ensures { λ r. ⌜ ((k : ℕ) → Figured k p hcnox co → r ≡ verdict k (shown p)) ⌝ }
+    ensures { λ r. ⌜ ((k : ℕ) → Figured k (p .engines) hcnox co → r ≡ verdict k (shown p)) ⌝ }
 {
     let n = p.engines.count as u64;
     let failed = either(hcnox.failed, co.failed);

@@ -36,10 +36,22 @@ pub both-of : (test : Pollutant → Bool) → (test Hcnox && test Co) ≡ true �
 both-of test h Hcnox = left (test Hcnox) (test Co) h
 both-of test h Co = right (test Hcnox) (test Co) h
 
+within-le : (low high x : ℕ) → within low high x ≡ true → x ≤ high
+within-le low high x h = leb-true x high (right (leb low x) (leb x high) h)
+
+-- five tests, one by one
+conjuncts : (a b c d e : Bool) → (a && b && c && d && e) ≡ true → (a ≡ true) × (b ≡ true) × (c ≡ true) × (d ≡ true) × (e ≡ true)
+conjuncts a b c d e h =
+    let w = and-eq-true-iff (a && b && c && d) e .0 h in
+    let x = and-eq-true-iff (a && b && c) d .0 (w .0) in
+    let y = and-eq-true-iff (a && b) c .0 (x .0) in
+    let z = and-eq-true-iff a b .0 (y .0) in
+    (z .0, z .1, y .1, x .1, w .1)
+
 pub standard-le : (t : Pair) → standardsInRange t ≡ true → (q : Pollutant) → of q t ≤ 20000
 standard-le t h q =
     let x = of q t in
-    leb-true x 20000 (right (leb 10 x) (leb x 20000) (left (within 10 20000 x) (eqb (x % 10) 0) (both-of (λ q. standardInRange (of q t)) h q)))
+    within-le 10 20000 x (left (within 10 20000 x) (eqb (x % 10) 0) (both-of (λ q. standardInRange (of q t)) h q))
 
 pub periods-le : (p d : ℕ) → periods p d ≤ 4
 unfolding periods
@@ -84,36 +96,22 @@ module _ (p : Progress) (e : Event) (h : admissible p e ≡ true) where
   unfolding admissible
   fitting = right (not (closed p) && not (eventsFull p)) (fits p e) h
 
-module _ (p : Progress) (number readings : ℕ) (results : Pair) (h : admissible p (Engine number readings results) ≡ true) where
-  named : Bool
-  named = numberInRange number && not (isTested number (p .tested)) && countInRange readings
+-- an engine that could be entered
+pub record AdmittedEngine (p : Progress) (n r : ℕ) (xs : Pair) : Type 0 where
+  pub number : n ≤ 65535
+  pub readings : r ≤ 3
+  pub results : (q : Pollutant) → of q xs ≤ 20000
+  pub room : length (p .tested) < 40
 
-  is-named : named ≡ true
-  unfolding named
-  is-named = left named (resultsInRange results) (left (named && resultsInRange results) (not (enginesFull p)) (fitting p (Engine number readings results) h))
-
-  pub engine-number : number ≤ 65535
-  unfolding named
-  engine-number =
-      leb-true _ 65535 (right (leb 1 number) (leb number 65535)
-      (left (numberInRange number) (not (isTested number (p .tested)))
-      (left (numberInRange number && not (isTested number (p .tested))) (countInRange readings) is-named)))
-
-  pub engine-readings : readings ≤ 3
-  unfolding named
-  engine-readings =
-      leb-true _ 3 (right (leb 1 readings) (leb readings 3) (right (numberInRange number && not (isTested number (p .tested))) (countInRange readings) is-named))
-
-  pub engine-room : length (p .tested) < 40
-  unfolding named
-  engine-room =
-      leb-false 40 _ (not-true (enginesFull p) (right (named && resultsInRange results) (not (enginesFull p)) (fitting p (Engine number readings results) h)))
-
-  pub engine-results : (q : Pollutant) → resultInRange (of q results) ≡ true
-  unfolding named
-  engine-results =
-      both-of (λ q. resultInRange (of q results))
-      (right named (resultsInRange results) (left (named && resultsInRange results) (not (enginesFull p)) (fitting p (Engine number readings results) h)))
+pub admitted-engine : (p : Progress) (n r : ℕ) (xs : Pair) → admissible p (Engine n r xs) ≡ true → AdmittedEngine p n r xs
+admitted-engine p n r xs h =
+    let t = conjuncts (numberInRange n) (not (isTested n (p .tested))) (countInRange r) (resultsInRange xs) (not (enginesFull p)) (fitting p (Engine n r xs) h) in
+    record {
+      number = within-le 1 65535 n (t .0);
+      readings = within-le 1 3 r (t .2);
+      results = λ q. leb-true _ _ (both-of (λ q. resultInRange (of q xs)) (t .3) q);
+      room = leb-false 40 _ (not-true (enginesFull p) (t .4));
+    }
 
 pub period-room : (p : Progress) → admissible p NextPeriod ≡ true → p .period < periods (p .setup .volume) (p .setup .days)
 period-room p h = leb-false _ (p .period) (or-false (lastPeriod p) (short p) (not-true (lastPeriod p || short p) (fitting p NextPeriod h)) .0)
@@ -128,8 +126,8 @@ after-in-range (Engine number readings results) p r h =
       events = omega (arith, not-full p (Engine number readings results) h);
       histories = λ q.
           record {
-            few = omega (arith, engine-room p number readings results h, history-length q (p .tested));
-            tests = (leb-true _ _ (engine-results p number readings results h q), standard-le (p .standards) (r .standards) q, r .histories q .tests);
+            few = omega (arith, admitted-engine p number readings results h .room, history-length q (p .tested));
+            tests = (admitted-engine p number readings results h .results q, standard-le (p .standards) (r .standards) q, r .histories q .tests);
           };
     }
 after-in-range (Amendment standards) p r h =

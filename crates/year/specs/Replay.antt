@@ -33,23 +33,42 @@ pub record Progress : Type 0 where
 abbrev pub start : Setup → Progress
 start s = record { setup = s; standards = s .standards; period = 1; tested = []; stored = 0; declared = false }
 
--- one event more. "An amendment .. sets T for later engines."
+-- one event more, for each thing that events change. "An amendment .. sets T for later engines."
+abbrev pub standardsAfter : Event → Pair → Pair
+standardsAfter (Engine number readings results) inForce = inForce
+standardsAfter (Amendment standards) inForce = standards
+standardsAfter NextPeriod inForce = inForce
+standardsAfter Declaration inForce = inForce
+
+abbrev pub periodAfter : Event → ℕ → ℕ
+periodAfter (Engine number readings results) period = period
+periodAfter (Amendment standards) period = period
+periodAfter NextPeriod period = period + 1
+periodAfter Declaration period = period
+
+-- an engine is tested under the standards in force, in the current period; an amendment "alters no N, mark or verdict already worked"
+abbrev pub testedAfter : Event → Progress → List Tested
+testedAfter (Engine number readings results) p = record { number = number; results = results; standards = p .standards; period = p .period } ∷ p .tested
+testedAfter (Amendment standards) p = p .tested
+testedAfter NextPeriod p = p .tested
+testedAfter Declaration p = p .tested
+
+abbrev pub declaredAfter : Event → Bool → Bool
+declaredAfter (Engine number readings results) declared = declared
+declaredAfter (Amendment standards) declared = declared
+declaredAfter NextPeriod declared = declared
+declaredAfter Declaration declared = true
+
 abbrev pub after : Event → Progress → Progress
-after (Engine number readings results) p =
+after e p =
     record {
       setup = p .setup;
-      standards = p .standards;
-      period = p .period;
-      tested = record { number = number; results = results; standards = p .standards; period = p .period } ∷ p .tested;
+      standards = standardsAfter e (p .standards);
+      period = periodAfter e (p .period);
+      tested = testedAfter e p;
       stored = p .stored + 1;
-      declared = p .declared;
+      declared = declaredAfter e (p .declared);
     }
-after (Amendment standards) p =
-    record { setup = p .setup; standards = standards; period = p .period; tested = p .tested; stored = p .stored + 1; declared = p .declared }
-after NextPeriod p =
-    record { setup = p .setup; standards = p .standards; period = p .period + 1; tested = p .tested; stored = p .stored + 1; declared = p .declared }
-after Declaration p =
-    record { setup = p .setup; standards = p .standards; period = p .period; tested = p .tested; stored = p .stored + 1; declared = true }
 
 abbrev pub replay : Setup → List Event → Progress
 replay s [] = start s

@@ -4,8 +4,8 @@ use mathlib.Core.Path.{_≡_}
 use mathlib.Core.Logic.{⊎-elim}
 use Prim.Native.Nat.{_+_, _-_, _≤_}
 use native.Mathlib.Omega.{arith}
-use Rattle.engines.specs.Engines.{ReworkInRange}
-use Rattle.engines.proofs.Arrays.{rework-before}
+use Rattle.engines.specs.Engines.{ColumnsInRange}
+use Rattle.engines.proofs.Arrays.{columns-before}
 use Rattle.printing.proofs.Column.{Carried, carried-start, in-range, sums-room, carried-early, deviation-room, cumsum-room, limit-room, carried-later}
 use Rattle.printing.proofs.mark_column.Statement.{statement}
 use Rattle.printing.proofs.mark_column.Tie as tie
@@ -19,11 +19,11 @@ abbrev μ-loop : tie.MeasureT-loop
 
 -- the ranges with the engine at i
 fits : (c : tie.In-loop Inv-loop μ-loop)
-    → let a = c .before .before .before .args in ReworkInRange (a .t1) (a .t2) (c .before .loop .i + 1) (a .resolution)
+    → let a = c .before .before .before .args in ColumnsInRange (a .t1) (a .t2) (c .before .loop .i + 1) (a .resolution)
 fits c =
     let s = c .before .before .before in
     let a = s .args in
-    rework-before (a .t1) (a .t2) (a .resolution) (a .count) (c .before .loop .i + 1) (omega arith) (s .pre)
+    columns-before (a .t1) (a .t2) (a .resolution) (a .count) (c .before .loop .i + 1) (omega arith) (s .pre)
 
 no-sums-requires : tie.Need-no-sums-requires Inv-loop μ-loop
 no-sums-requires c κs = tt

@@ -5,7 +5,8 @@ use native.Mathlib.Omega.{arith}
 use lib.ListN.{length}
 use Rattle.buffers.specs.Bytes.{put}
 use Rattle.year.specs.Setup.{Hcnox, Co}
-use Rattle.printing.proofs.Printed.{bytesTo, fits, few, length-printed, printed-next}
+use Rattle.engines.proofs.Arrays.{columns-fit}
+use Rattle.printing.proofs.Printed.{bytesTo, few, length-printed, printed-next}
 use Rattle.printing.proofs.print_marks.Statement.{statement}
 use Rattle.printing.proofs.print_marks.Tie as tie
 
@@ -31,10 +32,10 @@ long l =
     length-printed (a .resolution) (a .engines) (a .out .now) (l .loop .i) (l .loop .out) (l .loop .inv .1) (omega arith)
 
 mark-column-requires : tie.Need-mark-column-requires Inv-loop μ-loop
-mark-column-requires c κs = let s = entered c in fits (s .args .resolution) (s .args .engines) (s .pre .0) Hcnox
+mark-column-requires c κs = let s = entered c in columns-fit Hcnox (s .args .engines) (s .args .resolution) (s .pre .0)
 
 mark-column-requires-2 : tie.Need-mark-column-requires-2 Inv-loop μ-loop
-mark-column-requires-2 c κs = let s = entered (c .before) in fits (s .args .resolution) (s .args .engines) (s .pre .0) Co
+mark-column-requires-2 c κs = let s = entered (c .before) in columns-fit Co (s .args .engines) (s .args .resolution) (s .pre .0)
 
 loop-holds : tie.Need-loop-holds Inv-loop μ-loop
 unfolding put

@@ -4,10 +4,11 @@ use Prim.Native.Nat.{_-_, _≤_}
 use native.Mathlib.Omega.{arith}
 use lib.ListN.{length, drop}
 use borrow.Author.Tests.{not-true}
+use Rattle.buffers.proofs.Lists.{every-stop, every-go, every-end}
 use Rattle.buffers.proofs.Tests.{not-false}
+use Rattle.rounding.specs.Result.{readingInRange}
 use Rattle.reference.specs.Refusals.{allInRange}
 use borrow.Author.Needs.{needs}
-use Rattle.engine_decision.proofs.Ranging.{range-stop, range-go, range-end}
 use Rattle.engine_decision.proofs.readings.all_in_range.Statement.{statement}
 use Rattle.engine_decision.proofs.readings.all_in_range.Tie as tie
 
@@ -33,7 +34,7 @@ returns : tie.Need-returns Inv-loop μ-loop
 returns c =
     let r = c .before in
     let l = r .before .before in
-    sym (range-stop (l .before .before .before .args .readings .now) (l .before .loop .i) (l .loop-test .taken)
+    sym (every-stop readingInRange allInRange refl (λ x xs. refl) (l .before .before .before .args .readings .now) (l .before .loop .i) (l .loop-test .taken)
     (sym (r .reading-in-range .ensures) ∙ not-true _ (c .if1 .taken)))
     ∙ l .before .loop .inv .1
 
@@ -48,13 +49,13 @@ loop-again c =
     let r = c .before in
     let l = r .before .before in (
       omega arith,
-      range-go (l .before .before .before .args .readings .now) (l .before .loop .i) (l .loop-test .taken)
+      every-go readingInRange allInRange refl (λ x xs. refl) (l .before .before .before .args .readings .now) (l .before .loop .i) (l .loop-test .taken)
           (sym (r .reading-in-range .ensures) ∙ not-false _ (c .if1 .left))
           ∙ l .before .loop .inv .1,
     )
 
 returns-2 : tie.Need-returns-2 Inv-loop μ-loop
-returns-2 c = sym (range-end (c .before .before .before .args .readings .now) (c .before .loop .i) (c .loop-test .left)) ∙ c .before .loop .inv .1
+returns-2 c = sym (every-end readingInRange allInRange refl (λ x xs. refl) (c .before .before .before .args .readings .now) (c .before .loop .i) (c .loop-test .left)) ∙ c .before .loop .inv .1
 
 pub all-in-range-spec : {M : Type 1} → statement M
 all-in-range-spec =

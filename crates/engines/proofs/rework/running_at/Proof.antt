@@ -4,7 +4,7 @@ use Prim.Native.Nat.{_+_, _-_, _≤_}
 use native.Mathlib.Omega.{arith}
 use Rattle.figures.specs.Running.{running}
 use Rattle.engines.specs.Engines.{testsTo}
-use Rattle.engines.proofs.Arrays.{rework-before}
+use Rattle.engines.proofs.Arrays.{columns-before}
 use Rattle.engines.proofs.rework.running_at.Statement.{statement}
 use Rattle.engines.proofs.rework.running_at.Tie as tie
 
@@ -25,7 +25,7 @@ add-at-requires c κs =
     let l = c .before in
     let s = l .before .before in
     let a = s .args in
-    (rework-before (a .results) (a .standards) (a .resolution) (a .count) (l .loop .i + 1) (omega arith) (s .pre), l .loop .inv .1)
+    (columns-before (a .results) (a .standards) (a .resolution) (a .count) (l .loop .i + 1) (omega arith) (s .pre), l .loop .inv .1)
 
 add-i : tie.Need-add-i Inv-loop μ-loop
 add-i c = omega arith

@@ -1,47 +1,29 @@
--- `events::engine` meets its contract. Assumes nothing.
+-- `events::engine` meets its contract.
 use native.Mathlib.Omega.{arith}
 use Rattle.year.specs.Setup.{Hcnox, Co}
-use Rattle.year.specs.Replay.{history}
-use Rattle.engines.specs.Engines.{tested}
-use Rattle.progress.proofs.Carried.{current-le, engine-fits, result-fits, carried}
+use Rattle.progress.proofs.Carried.{Room, room}
 use Rattle.progress.proofs.Steps.{engine}
 use borrow.Author.Needs.{needs}
 use Rattle.progress.proofs.events.engine.Statement.{statement}
 use Rattle.progress.proofs.events.engine.Tie as tie
 
-with-engine-requires : tie.Need-with-engine-requires
-with-engine-requires c κs =
-    let s = c .before .before .before .before .before in
-    engine-fits (s .args .p) (s .pre .0) (s .args .number) (s .args .readings) (s .args .results) (s .pre .1)
-
-add-t11 : tie.Need-add-t11
-add-t11 c = search needs
-
-add-t12 : tie.Need-add-t12
-add-t12 c =
-    let s = c .before .before .before .before .before .before .before .before in
-    omega (arith, current-le (s .args .p) (s .pre .0))
-
-add-requires : tie.Need-add-requires
-add-requires c κs =
-    let s = c .before .before .before .before .before .before .before .before in
-    result-fits (s .args .p) (s .pre .0) (s .args .number) (s .args .readings) (s .args .results) (s .pre .1) Hcnox
-
-add-requires-2 : tie.Need-add-requires-2
-add-requires-2 c κs =
-    let s = c .before .before .before .before .before .before .before .before .before in
-    result-fits (s .args .p) (s .pre .0) (s .args .number) (s .args .readings) (s .args .results) (s .pre .1) Co
+fit : (s : tie.Start) → Room (s .args .p) (s .args .number) (s .args .results)
+fit s = room (s .args .p) (s .pre .0) (s .args .number) (s .args .readings) (s .args .results) (s .pre .1)
 
 returns : tie.Need-returns
 returns c =
     let w = c .before .before .before .before in
     let s = w .before .before .before .before .before .before in
-    let p = s .args .p in
-    engine p (s .pre .0) (s .args .number) (s .args .readings) (s .args .results) (w .with-engine .result) (c .before .add .result) (c .add2 .result)
-    (s .pre .1) (w .with-engine .ensures)
-    (c .before .add .ensures (history Hcnox (tested (p .engines))) (carried p (s .pre .0) Hcnox))
-    (c .add2 .ensures (history Co (tested (p .engines))) (carried p (s .pre .0) Co))
+    engine (s .args .p) (s .pre .0) (s .args .number) (s .args .readings) (s .args .results) (w .with-engine .result) (c .before .add .result) (c .add2 .result)
+    (s .pre .1) (w .with-engine .ensures) (c .before .add .ensures) (c .add2 .ensures)
 
 pub engine-spec : {M : Type 1} → statement M
 engine-spec =
-    tie.close (tie.spec with-engine-requires add-t11 add-t12 add-requires add-requires-2 returns)
+    tie.close
+    (tie.spec
+    (λ c κs. fit (c .before .before .before .before .before) .engine)
+    (λ c. search needs)
+    (λ c. omega (arith, fit (c .before .before .before .before .before .before .before .before) .current))
+    (λ c κs. fit (c .before .before .before .before .before .before .before .before) .figures Hcnox)
+    (λ c κs. fit (c .before .before .before .before .before .before .before .before .before) .figures Co)
+    returns)
