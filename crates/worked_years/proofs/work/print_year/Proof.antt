@@ -1,26 +1,9 @@
--- `work::year` meets its contract. Assumes nothing.
-use mathlib.Core.Path.{sym, _∙_}
-use borrow.Author.Tests.{not-false}
+-- `work::print_year` meets its contract.
 use Rattle.year.specs.Setup.{Hcnox, Co}
 use Rattle.progress.proofs.Carried.{shown-fits}
 use borrow.Author.Needs.{needs}
-use Rattle.worked_years.proofs.work.year.Statement.{statement}
-use Rattle.worked_years.proofs.work.year.Tie as tie
-
-setup-in-range-requires : tie.Need-setup-in-range-requires
-setup-in-range-requires c κs = search needs
-
-slice-aggregate-text : tie.Need-slice-aggregate-text
-slice-aggregate-text c = search needs
-
-text-requires : tie.Need-text-requires
-text-requires c κs = search needs
-
-returns : tie.Need-returns
-returns c = search needs
-
-enter-all-requires : tie.Need-enter-all-requires
-enter-all-requires c κs = sym (c .before .setup-in-range .ensures) ∙ not-false (c .before .setup-in-range .result) (c .if1 .left)
+use Rattle.worked_years.proofs.work.print_year.Statement.{statement}
+use Rattle.worked_years.proofs.work.print_year.Tie as tie
 
 at-most-requires : tie.Need-at-most-requires
 at-most-requires c κs = search needs
@@ -43,8 +26,7 @@ status-requires c κs = search needs
 figures-of-requires : tie.Need-figures-of-requires
 figures-of-requires c κs =
     let w = c .before .before .before .before .before .before in
-    let e = w .before .before .enter-all in
-    shown-fits (e .result) (e .ensures) (w .before .at-most .result) Hcnox (w .rework .result .hcnox) (w .rework .ensures .0)
+    shown-fits (w .before .before .args .p) (w .before .before .pre) (w .before .at-most .result) Hcnox (w .rework .result .hcnox) (w .rework .ensures .0)
 
 figures-requires : tie.Need-figures-requires
 figures-requires c κs = search needs
@@ -52,8 +34,7 @@ figures-requires c κs = search needs
 figures-of-requires-2 : tie.Need-figures-of-requires-2
 figures-of-requires-2 c κs =
     let w = c .before .before .before .before .before .before .before .before in
-    let e = w .before .before .enter-all in
-    shown-fits (e .result) (e .ensures) (w .before .at-most .result) Co (w .rework .result .co) (w .rework .ensures .1)
+    shown-fits (w .before .before .args .p) (w .before .before .pre) (w .before .at-most .result) Co (w .rework .result .co) (w .rework .ensures .1)
 
 figures-requires-2 : tie.Need-figures-requires-2
 figures-requires-2 c κs = search needs
@@ -61,18 +42,13 @@ figures-requires-2 c κs = search needs
 end-requires : tie.Need-end-requires
 end-requires c κs = search needs
 
-returns-2 : tie.Need-returns-2
-returns-2 c = search needs
+returns : tie.Need-returns
+returns c = search needs
 
-pub year-spec : {M : Type 1} → statement M
-year-spec =
+pub print-year-spec : {M : Type 1} → statement M
+print-year-spec =
     tie.close
     (tie.spec
-    setup-in-range-requires
-    slice-aggregate-text
-    text-requires
-    returns
-    enter-all-requires
     at-most-requires
     rework-requires
     cast-number
@@ -84,4 +60,4 @@ year-spec =
     figures-of-requires-2
     figures-requires-2
     end-requires
-    returns-2)
+    returns)

@@ -1,10 +1,10 @@
--- `input::read_line` meets its contract. The invariant: the line keeps its length. Assumes nothing.
+-- `input::read_line` meets its contract. The invariant: the line keeps its length.
 use mathlib.Core.Path.{_≡_}
 use Prim.Native.Nat.{_-_, _≤_}
 use native.Mathlib.Omega.{arith}
 use lib.ListN.{length, length-set}
-use Rattle.call_lists.proofs.input.read_line.Statement.{statement}
-use Rattle.call_lists.proofs.input.read_line.Tie as tie
+use Rattle.test_lines.proofs.input.read_line.Statement.{statement}
+use Rattle.test_lines.proofs.input.read_line.Tie as tie
 
 abbrev Inv-loop : tie.InvT-loop
 Inv-loop line₀ n₀ line n = (n ≤ 256) × (length line ≡ 256)
