@@ -11,7 +11,7 @@ target/bin/header
 c++ -std=c++11 $strict -x c++ tests/header.c -x none "$library" -o target/bin/header
 target/bin/header
 cc -std=c11 $strict examples/calculator.c "$library" -o target/bin/calculator_c
-for run in calculator run_open_mark run_sample_size run_amendment run_failed run_declared run_lines run_empty; do
+for run in calculator run_years run_lines run_empty; do
     target/bin/calculator_c <"crates/$run/stdin" | cmp - "crates/$run/stdout"
 done
-echo "the example in C prints the 8 tested runs as the calculator does"
+echo "the example in C prints the 4 tested runs as the calculator does"

@@ -1,6 +1,6 @@
 """Reference model of document 01, from document 01 alone: readings and results, figures, marks, sample size, verdict, refusals of entries, the 544-byte book.
 
-It shares nothing with the calculator. tools/damaged_journals.py and tools/call_lists.py make the test programs' input and expected output from it.
+It shares nothing with the calculator. The tools beside it make the test programs' input and expected output from it.
 Events are tuples: ('E', number, readings, hcnox, co), ('A', hcnox, co), ('P',), ('D',).
 A setup is (P, D, hcnox standard, co standard, hcnox kind, co kind, hcnox factor, co factor).
 """

@@ -1,15 +1,15 @@
 #!/usr/bin/env python3
 """Input and expected output of the calculator's tested runs, from document 01 alone (tools/model.py, and the table of refusals in tools/call_lists.py).
 
-Run from the repository's root, it writes crates/NAME/stdin and crates/NAME/stdout of each run; it shares nothing with the calculator.
-  calculator, run_*   the worked years examples/*.txt, as they stand
-  run_lines           lines that are not of the form, too long or of any bytes, before a setup, in mid-year and after a second setup; the calls of
-                      crates/call_lists/stdin as key lines, with lines damaged by a fixed seed among them; no newline at the end
-  run_empty           an input of no bytes
+Run from the repository's root, it writes crates/NAME/stdin and crates/NAME/stdout of each run, and examples/YEAR.replies.txt of each worked year; it shares
+nothing with the calculator.
+  calculator   the worked year examples/year.txt, as it stands
+  run_years    the other worked years of examples/, one after another
+  run_lines    lines that are not of the form, too long or of any bytes, before a setup, in mid-year and after a second setup; the calls of
+               crates/call_lists/stdin as key lines, with lines damaged by a fixed seed among them; no newline at the end
+  run_empty    an input of no bytes
 Counts of what was met go to standard error; the script fails if a letter, a refusal that a key line can meet, a verdict or a mark was never met.
 """
-import glob
-import os
 import random
 import re
 import sys
@@ -19,6 +19,8 @@ from model import SIZE, Year, self_check
 
 LONGEST = 64
 FORM = re.compile(rb'[SEAPXL]( (0|[1-9][0-9]{0,7}))*')
+# The worked years of run_years in their order, which tests/years.sh compares.
+YEARS = ['open_mark', 'sample_size', 'amendment', 'failed', 'declared']
 COUNTS = {'S': 8, 'A': 2, 'P': 0, 'X': 0, 'L': 0}
 
 # --------------------------------------------------------------- the replies
@@ -178,6 +180,16 @@ def sessions():
 # --------------------------------------------------------------------- main
 
 
+def worked_year(name):
+    """The key lines of a worked year. A setup starts a year anew, so that its replies, which are written beside it, are the same wherever in a run it stands."""
+    with open('examples/%s.txt' % name, 'rb') as f:
+        data = f.read()
+    assert data.startswith(b'S ') and data.endswith(b'\n')
+    with open('examples/%s.replies.txt' % name, 'wb') as f:
+        f.write(Calculator().run(data))
+    return data
+
+
 def write(name, data, met):
     calculator = Calculator()
     output = calculator.run(data)
@@ -194,10 +206,8 @@ def write(name, data, met):
 def main():
     self_check()
     met = [Counter() for _ in range(4)]
-    for path in sorted(glob.glob('examples/*.txt')):
-        label = os.path.basename(path)[:-4]
-        with open(path, 'rb') as f:
-            write('calculator' if label == 'year' else 'run_' + label, f.read(), met)
+    write('calculator', worked_year('year'), met)
+    write('run_years', b''.join(map(worked_year, YEARS)), met)
     write('run_lines', any_lines() + b'\n' + sessions(), met)
     write('run_empty', b'', met)
     for title, counts in zip(('letters accepted', 'refusals', 'verdicts', 'marks'), met):

@@ -13,13 +13,11 @@ use queries::read_status;
 use queries::write_marks;
 use reference::Answer;
 use reference::Change;
-use rounding::Factor;
 use test_lines::lines::end;
 use test_lines::lines::next;
 use test_lines::lines::number;
-use year::Factors;
+use test_lines::numbers::setup_of;
 use year::Pair;
-use year::Setup;
 
 fn at_most(n: u32, most: u32) -> usize
     ensures { λ r. ⌜ r ≤ most ⌝ }
@@ -42,29 +40,6 @@ fn digest(bytes: &[u8]) -> u64 {
 
 fn digested(d: u64, b: u8) -> u64 {
     (d % 4294967291 * 31 + b as u64) % 4294967291
-}
-
-fn setup_of(numbers: &[u32]) -> Setup
-    requires { ⌜ length (now numbers) ≡ 300 ⌝ }
-{
-    let standards = Pair {
-        hcnox: numbers[2],
-        co: numbers[3],
-    };
-    let hcnox = Factor {
-        kind: numbers[4],
-        value: numbers[5],
-    };
-    let co = Factor {
-        kind: numbers[6],
-        value: numbers[7],
-    };
-    Setup {
-        volume: numbers[0],
-        days: numbers[1],
-        standards,
-        factors: Factors { hcnox, co },
-    }
 }
 
 // The engine's number, two counts of readings, at most eight each, and the readings.

@@ -4,22 +4,12 @@ ghost use mathlib.Core.Path.{_≡_};
 ghost use Prim.Native.Nat.{_≤_, _<_};
 ghost use lib.ListN.{length};
 use crate::calling::obey;
-use crate::input::read_line;
 use crate::lines::title;
-use test_lines::numbers::read_numbers;
+use test_lines::input::read_line;
+use test_lines::numbers::read_arguments;
 
 mod calling;
-mod input;
 mod lines;
-
-// The numbers of a line, from its third byte on, over zeros.
-fn read_arguments(line: &[u8], numbers: &mut [u32])
-    requires { ⌜ (length (now line) ≤ 256) × (length (now numbers) ≡ 300) ⌝ }
-{
-    if 2 < line.len() {
-        read_numbers(&line[2..], numbers);
-    }
-}
 
 // A line that is no title: its letter and its numbers.
 fn obey_line(line: &[u8], journal: &mut [u8], lent: usize) -> usize

@@ -1,6 +1,11 @@
 // Numbers from text: digits, one space between two numbers.
+ghost use mathlib.Core.Path.{_≡_};
 ghost use Prim.Native.Nat.{_+_, _≤_, _<_};
 ghost use lib.ListN.{length};
+use rounding::Factor;
+use year::Factors;
+use year::Pair;
+use year::Setup;
 
 // A digit more, or the number as it is at a space. (No number of the inputs is above the largest u32; the remainder keeps the others in it.)
 fn with_byte(number: u32, b: u8) -> u32 {
@@ -34,4 +39,37 @@ pub fn read_numbers(text: &[u8], out: &mut [u32]) -> usize
         i += 1;
     }
     place + 1
+}
+
+// The numbers of a line, from its third byte on, over zeros.
+pub fn read_arguments(line: &[u8], numbers: &mut [u32])
+    requires { ⌜ (length (now line) ≤ 256) × (length (now numbers) ≡ 300) ⌝ }
+{
+    if 2 < line.len() {
+        read_numbers(&line[2..], numbers);
+    }
+}
+
+// The setup of eight numbers: volume, days, the standards of HC+NOx and of CO, and the kind and value of each factor.
+pub fn setup_of(numbers: &[u32]) -> Setup
+    requires { ⌜ length (now numbers) ≡ 300 ⌝ }
+{
+    let standards = Pair {
+        hcnox: numbers[2],
+        co: numbers[3],
+    };
+    let hcnox = Factor {
+        kind: numbers[4],
+        value: numbers[5],
+    };
+    let co = Factor {
+        kind: numbers[6],
+        value: numbers[7],
+    };
+    Setup {
+        volume: numbers[0],
+        days: numbers[1],
+        standards,
+        factors: Factors { hcnox, co },
+    }
 }

@@ -1,16 +1,19 @@
-// A test program: the figures of document 01's printed run, of its starred cases and of years at the largest values. Its output is compared with the file
-// stdout, which was worked by another program from document 01 alone.
-mod cases;
+// A test program: small rules, and years from standard input, event by event, with their figures. Input and expected output are made by tools/worked_years.py, which
+// works from document 01 alone and says how the lines are written.
+use crate::work::first_year;
+use crate::work::obey;
+use test_lines::input::next_letter;
+
+mod rules;
 mod work;
 
 fn main() {
-    cases::rounding();
-    cases::schedules();
-    cases::document_years();
-    cases::other_years();
-    cases::no_years();
-    cases::many_events();
-    cases::largest(20000, 20000);
-    cases::largest(10, 20000);
-    cases::largest_amended();
+    let mut p = first_year();
+    let mut i: u32 = 0;
+    while i < 1000 {
+        let mut numbers = [0u32; 300];
+        let letter = next_letter(&mut numbers);
+        p = obey(p, letter, &numbers);
+        i += 1;
+    }
 }

@@ -1,77 +1,62 @@
-// A year worked from numbers, whatever they are.
+// A year from the lines so far. An event that could not be entered leaves it as it is.
 ghost use mathlib.Core.Path.{_≡_};
-ghost use mathlib.Core.Bool.{true};
-ghost use Prim.Native.Nat.{_+_, _≤_};
+ghost use Prim.Native.Nat.{_≤_};
 ghost use lib.ListN.{length};
-ghost use Rattle.year.specs.Setup.{setupInRange};
 ghost use Rattle.progress.specs.State.{Consistent};
+use crate::rules::print_rule;
 use admission::is_admissible;
 use engines::summary::figures_of;
 use progress::Progress;
 use progress::events::after;
 use progress::events::start;
 use progress::rework::rework;
+use rounding::Factor;
 use schedule::setup_in_range;
 use test_lines::lines::end;
 use test_lines::lines::figures;
 use test_lines::lines::number;
 use test_lines::lines::status;
 use test_lines::lines::text;
+use test_lines::numbers::setup_of;
 use verdicts::status::status_of;
 use year::Event;
+use year::Factors;
 use year::Pair;
 use year::Setup;
 
-// Five numbers are an event: its kind, and an engine's number, readings and two results, or an amendment's two standards.
-fn event_at(numbers: &[u32], at: usize) -> Event
-    requires { ⌜ at + 5 ≤ length (now numbers) ⌝ }
+// The year before the first setup of the input.
+pub fn first_year() -> Progress
+    ensures { λ r. ⌜ Consistent r ⌝ }
 {
-    let kind = numbers[at];
-    let first = numbers[at + 1];
-    let second = numbers[at + 2];
-    let results = Pair {
-        hcnox: numbers[at + 3],
-        co: numbers[at + 4],
-    };
-    if kind == 1 {
-        return Event::Engine {
-            number: first,
-            readings: second,
-            results,
-        };
-    }
-    if kind == 2 {
-        return Event::Amendment(Pair {
-            hcnox: first,
-            co: second,
-        });
-    }
-    if kind == 3 {
-        return Event::NextPeriod;
-    }
-    Event::Declaration
+    let none = Factor { kind: 0, value: 0 };
+    start(Setup {
+        volume: 1,
+        days: 1,
+        standards: Pair { hcnox: 10, co: 10 },
+        factors: Factors {
+            hcnox: none,
+            co: none,
+        },
+    })
 }
 
-// An event that could not be entered leaves the year as it is.
+fn begin(p: Progress, setup: Setup) -> Progress
+    requires { ⌜ Consistent p ⌝ }
+    ensures { λ r. ⌜ Consistent r ⌝ }
+{
+    if setup_in_range(setup) {
+        return start(setup);
+    }
+    text(b"no year\n");
+    p
+}
+
 fn enter(p: Progress, e: Event) -> Progress
     requires { ⌜ Consistent p ⌝ }
     ensures { λ r. ⌜ Consistent r ⌝ }
 {
     if is_admissible(p, e) {
         return after(p, e);
-    }
-    p
-}
-
-fn enter_all(setup: Setup, numbers: &[u32]) -> Progress
-    requires { ⌜ setupInRange setup ≡ true ⌝ }
-    ensures { λ r. ⌜ Consistent r ⌝ }
-{
-    let mut p = start(setup);
-    let mut at: usize = 0;
-    while 5 <= numbers.len() - at {
-        p = enter(p, event_at(numbers, at));
-        at += 5;
     }
     p
 }
@@ -85,15 +70,11 @@ fn at_most(n: u64, most: u64) -> u64
     n
 }
 
-// The year of a setup and the events that the numbers say, on one line: how many were entered, the status at 1,024, and the figures of both pollutants worked anew
-// at `resolution`, or at 8,192 where that is less.
-pub fn year(setup: Setup, numbers: &[u32], resolution: u64) {
-    if !setup_in_range(setup) {
-        text(b"no year\n");
-        return;
-    }
-    let p = enter_all(setup, numbers);
-    let again = rework(p, at_most(resolution, 8192));
+// How many events were entered, the status at 1,024, and the figures of both pollutants worked anew at `resolution`, or at 8,192 where that is less.
+fn print_year(p: Progress, resolution: u32)
+    requires { ⌜ Consistent p ⌝ }
+{
+    let again = rework(p, at_most(resolution as u64, 8192));
     let hcnox = again.hcnox;
     let co = again.co;
     number(p.stored as u64);
@@ -101,4 +82,56 @@ pub fn year(setup: Setup, numbers: &[u32], resolution: u64) {
     figures(figures_of(hcnox));
     figures(figures_of(co));
     end();
+}
+
+fn event_of(letter: u8, numbers: &[u32]) -> Event
+    requires { ⌜ length (now numbers) ≡ 300 ⌝ }
+{
+    if letter == b'E' {
+        let results = Pair {
+            hcnox: numbers[2],
+            co: numbers[3],
+        };
+        return Event::Engine {
+            number: numbers[0],
+            readings: numbers[1],
+            results,
+        };
+    }
+    if letter == b'A' {
+        return Event::Amendment(Pair {
+            hcnox: numbers[0],
+            co: numbers[1],
+        });
+    }
+    if letter == b'P' {
+        return Event::NextPeriod;
+    }
+    Event::Declaration
+}
+
+fn is_event(letter: u8) -> bool {
+    match letter {
+        b'E' | b'A' | b'P' | b'X' => true,
+        _ => false,
+    }
+}
+
+// The year after the line of a letter and its numbers.
+pub fn obey(p: Progress, letter: u8, numbers: &[u32]) -> Progress
+    requires { ⌜ Consistent p × (length (now numbers) ≡ 300) ⌝ }
+    ensures { λ r. ⌜ Consistent r ⌝ }
+{
+    if letter == b'S' {
+        return begin(p, setup_of(numbers));
+    }
+    if is_event(letter) {
+        return enter(p, event_of(letter, numbers));
+    }
+    if letter == b'F' {
+        print_year(p, numbers[0]);
+        return p;
+    }
+    print_rule(letter, numbers);
+    p
 }

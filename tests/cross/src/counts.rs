@@ -1,5 +1,7 @@
 //! What a run has met.
 
+use std::slice;
+
 use crate::kinds::KINDS;
 use crate::model::Status;
 
@@ -73,10 +75,26 @@ impl Counts {
         self.kinds.iter().map(|(cases, _)| cases).sum()
     }
 
-    /// A case of this kind is over; it made so many calls.
-    pub fn case(&mut self, kind: usize, calls: u64) {
-        self.kinds[kind].0 += 1;
-        self.kinds[kind].1 += calls;
+    /// All this is one case of this kind.
+    pub fn case(&mut self, kind: usize) {
+        self.kinds[kind] = (1, self.calls);
+    }
+
+    /// Adds what a further case has met.
+    pub fn add(&mut self, case: &Counts) {
+        self.calls += case.calls;
+        self.short += case.short;
+        for (all, (cases, calls)) in self.kinds.iter_mut().zip(&case.kinds) {
+            all.0 += cases;
+            all.1 += calls;
+        }
+        add_each(&mut self.refusals, &case.refusals);
+        add_each(
+            slice::from_mut(&mut self.verdicts),
+            slice::from_ref(&case.verdicts),
+        );
+        add_each(&mut self.newest, &case.newest);
+        add_each(&mut self.written, &case.written);
     }
 
     pub fn call(&mut self, column: Column, refusal: u8) {
@@ -187,6 +205,12 @@ impl Counts {
             let cells = row.map(|count| format!("{count:>9}")).concat();
             println!("{refusal:>2}{cells}{:>9}", row.iter().sum::<u64>());
         }
+    }
+}
+
+fn add_each<const N: usize>(all: &mut [[u64; N]], case: &[[u64; N]]) {
+    for (sum, count) in all.iter_mut().flatten().zip(case.iter().flatten()) {
+        *sum += count;
     }
 }
 

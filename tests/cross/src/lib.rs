@@ -2,6 +2,7 @@
 
 pub mod aim;
 pub mod buffer;
+pub mod case;
 pub mod counts;
 pub mod drive;
 pub mod faults;

@@ -96,3 +96,24 @@ impl fmt::Display for Outcome {
 pub fn hex(bytes: &[u8]) -> String {
     bytes.iter().map(|byte| format!("{byte:02x}")).collect()
 }
+
+/// Why a case was left.
+#[derive(Clone, Debug)]
+pub struct Difference {
+    pub what: &'static str,
+    /// The calls of the case that agreed before.
+    pub agreed: u64,
+    /// The call and what both sides left.
+    pub details: String,
+}
+
+impl Difference {
+    /// What it said went to standard error.
+    pub fn panicked() -> Self {
+        Difference {
+            what: "a side panicked",
+            agreed: 0,
+            details: String::new(),
+        }
+    }
+}

@@ -3,19 +3,17 @@
 mod calls;
 mod short;
 
-use std::process;
+use std::panic;
 
 use crate::buffer::{AFTER, BEFORE, Buffer};
 use crate::counts::Counts;
 use crate::journal;
 use crate::library::{FIGURES, REPLY};
-use crate::outcome::{Call, Outcome, hex};
+use crate::outcome::{Call, Difference, Outcome, hex};
 use crate::random::Random;
 
 pub struct Twin {
     pub counts: Counts,
-    kind: &'static str,
-    seed: u64,
     trace: bool,
     /// What the lent buffers hold before a call.
     noise: Random,
@@ -26,26 +24,18 @@ pub struct Twin {
 }
 
 impl Twin {
-    /// With `trace` each call is printed.
-    pub fn new(trace: bool) -> Self {
-        Twin {
+    /// Starts a case, with a zeroed journal. With `trace` each call is printed.
+    pub fn new(trace: bool, seed: u64) -> Self {
+        let mut twin = Twin {
             counts: Counts::default(),
-            kind: "",
-            seed: 0,
             trace,
-            noise: Random::new(0),
+            noise: Random::new(!seed),
             kept: Vec::new(),
             library: Buffer::new(vec![0; AFTER], 0),
             model: Buffer::new(vec![0; AFTER], 0),
-        }
-    }
-
-    /// Starts a case, with a zeroed journal.
-    pub fn begin(&mut self, kind: &'static str, seed: u64) {
-        self.kind = kind;
-        self.seed = seed;
-        self.noise = Random::new(!seed);
-        self.lend(&[0; journal::LENGTH]);
+        };
+        twin.lend(&[0; journal::LENGTH]);
+        twin
     }
 
     /// Puts the same journal on both sides.
@@ -135,29 +125,26 @@ impl Twin {
         }
     }
 
-    fn differ(&self, what: &str, call: Call, library: &Outcome, model: &Outcome) -> ! {
-        println!("{what}, after {} calls that agreed", self.counts.calls);
-        println!("case: --case {} {}", self.kind, self.seed);
-        println!("call: {call}");
-        println!("journal before, {} bytes:", self.kept.len());
-        println!("  {}", hex(&self.kept));
+    /// Leaves the case.
+    fn differ(&self, what: &'static str, call: Call, library: &Outcome, model: &Outcome) -> ! {
+        let mut lines = vec![
+            format!("call: {call}"),
+            format!("journal before, {} bytes:", self.kept.len()),
+            format!("  {}", hex(&self.kept)),
+        ];
         for (side, outcome, journal) in [
             ("library", library, &self.library),
             ("model", model, &self.model),
         ] {
             let [before, after] = journal.around().map(hex);
-            println!("{side}: {outcome}\n  journal {}", hex(journal.part()));
-            println!("  around it {before} and {after}");
+            lines.push(format!("{side}: {outcome}"));
+            lines.push(format!("  journal {}", hex(journal.part())));
+            lines.push(format!("  around it {before} and {after}"));
         }
-        process::exit(1);
-    }
-}
-
-impl Drop for Twin {
-    /// Names the case if a side panicked in it.
-    fn drop(&mut self) {
-        if std::thread::panicking() {
-            println!("case: --case {} {}", self.kind, self.seed);
-        }
+        panic::resume_unwind(Box::new(Difference {
+            what,
+            agreed: self.counts.calls,
+            details: lines.join("\n"),
+        }))
     }
 }

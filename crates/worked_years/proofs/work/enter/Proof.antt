@@ -1,4 +1,4 @@
--- `work::enter` meets its contract. Assumes nothing.
+-- `work::enter` meets its contract.
 use mathlib.Core.Path.{sym, _∙_}
 use borrow.Author.Needs.{needs}
 use Rattle.worked_years.proofs.work.enter.Statement.{statement}

@@ -1,0 +1,6 @@
+// A tested run of the calculator: the worked years of examples/ but document 01's, one after another.
+use terminal::serve;
+
+fn main() {
+    serve();
+}
