@@ -41,7 +41,11 @@ pub fn status_refusal(journal: &[u8], scanned: Scanned) -> u8
     requires { ⌜ Tells scanned (readJournal (now journal)) ⌝ }
     ensures { λ r. ⌜ r ≡ refusalOn (Ask ReadStatus) (now (journal .entry)) ⌝ }
 {
-    row(journal.len() != JOURNAL_SIZE, 3, row(!scanned.accepted, 7, 0))
+    row(
+        journal.len() != JOURNAL_SIZE,
+        3,
+        row(!scanned.accepted, 7, 0),
+    )
 }
 
 // 3, 7 and 16, for an output of this size.
