@@ -1,10 +1,10 @@
 // Whether an event could be entered.
 ghost use mathlib.Core.Path.{_≡_};
 ghost use Rattle.year.specs.Admissible.{numberInRange, resultsInRange, fits, admissible};
-ghost use Rattle.progress.specs.State.{shown, Consistent};
-use buffers::both;
-use buffers::either;
-use buffers::within;
+ghost use Rattle.progress.specs.State.{progressOf, Consistent};
+use conditions::both;
+use conditions::either;
+use conditions::within;
 use engines::lookup::is_tested;
 use progress::Progress;
 use rounding::count_in_range;
@@ -34,7 +34,7 @@ pub fn results_in_range(results: Pair) -> bool
 // An engine: its number is in range and new, its readings are 1 to 3, its results are in range, and there is a place for it.
 fn engine_fits(p: Progress, number: u32, readings: u32, results: Pair) -> bool
     requires { ⌜ Consistent p ⌝ }
-    ensures { λ r. ⌜ r ≡ fits (shown p) (Event.Engine number readings results) ⌝ }
+    ensures { λ r. ⌜ r ≡ fits (progressOf p) (Event.Engine number readings results) ⌝ }
 {
     let engines = p.engines;
     let named = both(number_in_range(number), !is_tested(engines, number));
@@ -45,7 +45,7 @@ fn engine_fits(p: Progress, number: u32, readings: u32, results: Pair) -> bool
 // The next period: there is one, and the current one is not short.
 pub fn period_fits(p: Progress) -> bool
     requires { ⌜ Consistent p ⌝ }
-    ensures { λ r. ⌜ r ≡ fits (shown p) Event.NextPeriod ⌝ }
+    ensures { λ r. ⌜ r ≡ fits (progressOf p) Event.NextPeriod ⌝ }
 {
     let last = periods(p.setup.volume, p.setup.days) <= p.period;
     !either(last, is_short(p.current, p.period))
@@ -54,7 +54,7 @@ pub fn period_fits(p: Progress) -> bool
 // What the event asks for by its kind.
 fn event_fits(p: Progress, e: Event) -> bool
     requires { ⌜ Consistent p ⌝ }
-    ensures { λ r. ⌜ r ≡ fits (shown p) e ⌝ }
+    ensures { λ r. ⌜ r ≡ fits (progressOf p) e ⌝ }
 {
     match e {
         Event::Engine {
@@ -71,7 +71,7 @@ fn event_fits(p: Progress, e: Event) -> bool
 // The event could be entered now.
 pub fn is_admissible(p: Progress, e: Event) -> bool
     requires { ⌜ Consistent p ⌝ }
-    ensures { λ r. ⌜ r ≡ admissible (shown p) e ⌝ }
+    ensures { λ r. ⌜ r ≡ admissible (progressOf p) e ⌝ }
 {
     both(both(!closed(p), p.stored < 64), event_fits(p, e))
 }

@@ -3,8 +3,8 @@ use mathlib.Core.Bool.{Bool, cond}
 use mathlib.Core.List.{List, [], _∷_, _++_}
 use Prim.Native.Nat.{ℕ, zero, suc, _+_, _*_, _-_, _/_, _%_}
 use lib.Dec.{ltb}
-use Rattle.buffers.specs.Numbers.{within}
-use Rattle.buffers.specs.Text.{byte}
+use Rattle.conditions.specs.Ranges.{within}
+use Rattle.ascii.specs.Text.{byte}
 
 -- '0' to '9'
 abbrev pub isDigit : ℕ → Bool

@@ -7,10 +7,10 @@ ghost use Rattle.buffers.specs.Bytes.{put};
 ghost use Rattle.replies.specs.Replied.{Replied};
 ghost use Rattle.protocol.specs.Reply.{replyTo, journalAfterLine};
 use dispatch::carry_out;
+use parser::numbers::Numbers;
+use parser::numbers::read_numbers;
+use parser::request::requested;
 use replies::write_refusal;
-use requests::numbers::Numbers;
-use requests::numbers::read_numbers;
-use requests::request::requested;
 
 // A line of 1 to 64 bytes: its letter and its numbers are read, and make a call.
 fn reply_short(journal: &mut [u8], line: &[u8], out: &mut [u8]) -> usize

@@ -1,5 +1,4 @@
 -- Bytes of a line held, a reply with its newline, and the end of the input.
--- Assumes nothing.
 use mathlib.Core.Path.{_≡_, refl, sym, _∙_}
 use mathlib.Core.Bool.{Bool, true, false}
 use mathlib.Core.List.{List, [], _∷_, _++_}
@@ -11,7 +10,7 @@ use lib.Seq.{take-all}
 use borrow.Author.Tests.{leb-true, leb-false}
 use Rattle.io.proofs.Counting.{counts}
 use Rattle.buffers.specs.Bytes.{put}
-use Rattle.buffers.specs.Text.{byte}
+use Rattle.ascii.specs.Text.{byte}
 use Rattle.buffers.proofs.Lists.{put-one, put-none, put-put}
 use Rattle.protocol.specs.Console.{shownAtEnd, journalAtEnd}
 use Rattle.protocol.specs.Reply.{replyTo, journalAfterLine}

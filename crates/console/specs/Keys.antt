@@ -7,7 +7,7 @@ use lib.Dec.{eqb, ltb}
 use lib.ListN.{length}
 use Rattle.io.specs.Counts.{Counts}
 use Rattle.buffers.specs.Bytes.{put}
-use Rattle.buffers.specs.Text.{byte}
+use Rattle.ascii.specs.Text.{byte}
 
 -- bytes to be printed stand at the front of the output, and are so many; the output has room for them
 pub record Shown (bytes before after : List ℕ) (count : ℕ) : Type 0 where

@@ -5,7 +5,7 @@ ghost use mathlib.Core.Path.{_≡_};
 ghost use mathlib.Core.List.{[], _∷_, _++_};
 ghost use Prim.Native.Nat.{min};
 ghost use lib.ListN.{length, take};
-ghost use Rattle.buffers.specs.Text.{byte};
+ghost use Rattle.ascii.specs.Text.{byte};
 ghost use Rattle.protocol.specs.Console.{shownAt, heldAt, journalAt, shownAtEnd, journalAtEnd};
 ghost use Rattle.protocol.specs.Reply.{replyTo, journalAfterLine};
 ghost use Rattle.console.specs.Keys.{Shown, bufferAt};

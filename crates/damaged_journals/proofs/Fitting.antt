@@ -1,11 +1,10 @@
 -- What is read from one byte fits a byte: an event's readings, a setup's kinds of factor.
--- Assumes nothing.
 use mathlib.Core.Path.{_≡_, sym, subst}
 use mathlib.Core.List.{List}
 use Prim.Native.Nat.{ℕ, _<_}
 use lib.Dec.{eqb, lit<}
 use lib.ListN.{getD}
-use Rattle.buffers.proofs.Tests.{by-test}
+use Rattle.conditions.proofs.Tests.{by-test}
 use Rattle.buffers.proofs.LittleEndian.{Bytes}
 use Rattle.year.specs.declared.Setup.{Setup}
 use Rattle.year.specs.declared.Event.{Event}

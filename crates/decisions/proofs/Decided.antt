@@ -4,21 +4,21 @@ use mathlib.Core.Bool.{_||_}
 use mathlib.Core.List.{List}
 use Prim.Native.Nat.{ℕ}
 use borrow.Author.Tests.{ne-eqb}
-use Rattle.buffers.specs.Rows.{Row, first, Numbered}
-use Rattle.buffers.proofs.Rows.{first-kept, first-passed}
+use Rattle.conditions.specs.Rows.{Row, first, Numbered}
+use Rattle.conditions.proofs.Rows.{first-kept, first-passed}
 use Rattle.year.specs.declared.Event.{Event}
 use Rattle.year.specs.Replay.{short}
 use Rattle.year.specs.Admissible.{lastPeriod}
-use Rattle.progress.specs.State.{shown}
+use Rattle.progress.specs.State.{progressOf}
 use Rattle.journal.specs.Read.{readJournal}
 use Rattle.reference.specs.declared.Change.{Change}
 use Rattle.reference.specs.Call.{Entry, EnterChange, Enter, changeEvent, eventOf}
 use Rattle.reference.specs.Refusals.{refusals}
-use Rattle.scan.specs.declared.Scanned.{Scanned}
-use Rattle.scan.specs.Scan.{progressOf, Tells}
+use Rattle.slots.specs.declared.Scanned.{Scanned}
+use Rattle.slots.specs.Scanned.{replayed, ScannedAs}
 use Rattle.refusals.specs.Parts.{entryRows}
 use Rattle.refusals.proofs.Parts.{unfitStandards, own, entry-parts, entry-held, entry-passed}
-use Rattle.refusals.proofs.ScannedYear.{told-test}
+use Rattle.refusals.proofs.ScannedYear.{scanned-test}
 use Rattle.decisions.specs.declared.Decision.the-variants.{Refuse}
 use Rattle.decisions.specs.Decisions.{decision, decisionOn, changeRefusal}
 
@@ -36,7 +36,7 @@ module _ (entry : Entry) (journal : List ℕ) where
   shared = entryRows (unfitStandards entry) journal
 
   abbrev event : Event
-  event = eventOf (progressOf (readJournal journal)) entry
+  event = eventOf (replayed (readJournal journal)) entry
 
   pub shared-refused : (number : ℕ) → number ≡ first shared 0 → (number ≡ 0 → ⊥) → Refuse number ≡ decisionOn entry journal
   shared-refused number n h = refused-by shared (own entry journal) event number n h ∙ ap (λ r. decision r event) (sym (entry-parts entry journal))
@@ -45,10 +45,10 @@ module _ (entry : Entry) (journal : List ℕ) where
   own-decides none = ap (λ r. decision r event) (entry-passed entry journal none)
 
 -- a change, on the year that a scan has told
-module _ (change : Change) (journal : List ℕ) (scanned : Scanned) (t : Tells scanned (readJournal journal)) where
+module _ (change : Change) (journal : List ℕ) (scanned : Scanned) (t : ScannedAs scanned (readJournal journal)) where
   pub change-decided : first (entryRows (unfitStandards (EnterChange change)) journal) 0 ≡ 0
-      → decision (changeRefusal change (shown (scanned .progress))) (changeEvent change) ≡ decisionOn (EnterChange change) journal
+      → decision (changeRefusal change (progressOf (scanned .progress))) (changeEvent change) ≡ decisionOn (EnterChange change) journal
   unfolding refusals
   change-decided none =
-      let year = told-test scanned (readJournal journal) t (entry-held (EnterChange change) journal none) in
+      let year = scanned-test scanned (readJournal journal) t (entry-held (EnterChange change) journal none) in
       rw (← year (λ x. lastPeriod x || short x)) (own-decides (EnterChange change) journal none)

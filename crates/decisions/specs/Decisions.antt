@@ -3,7 +3,7 @@ use mathlib.Core.Bool.{cond, _||_}
 use mathlib.Core.List.{List, [], _∷_}
 use Prim.Native.Nat.{ℕ}
 use lib.Dec.{eqb}
-use Rattle.buffers.specs.Rows.{first}
+use Rattle.conditions.specs.Rows.{first}
 use Rattle.year.specs.declared.Event.{Event}
 use Rattle.year.specs.Replay.{Progress, short}
 use Rattle.year.specs.Admissible.{lastPeriod}
@@ -11,7 +11,7 @@ use Rattle.journal.specs.Read.{readJournal}
 use Rattle.reference.specs.declared.Change.{Change}
 use Rattle.reference.specs.Call.{Entry, Enter, eventOf, ofPeriod}
 use Rattle.reference.specs.Answers.{refusalOn}
-use Rattle.scan.specs.Scan.{progressOf}
+use Rattle.slots.specs.Scanned.{replayed}
 use Rattle.decisions.specs.declared.Decision.{Decision}
 use Rattle.decisions.specs.declared.Decision.the-variants.{Add, Refuse}
 
@@ -21,7 +21,7 @@ decision refusal e = cond (eqb refusal 0) (Add e) (Refuse refusal)
 
 -- the decision on an entry on a journal of any length and content
 abbrev pub decisionOn : Entry → List ℕ → Decision
-decisionOn entry journal = decision (refusalOn (Enter entry) journal) (eventOf (progressOf (readJournal journal)) entry)
+decisionOn entry journal = decision (refusalOn (Enter entry) journal) (eventOf (replayed (readJournal journal)) entry)
 
 -- a change's own rows on a year: 15
 abbrev pub changeRefusal : Change → Progress → ℕ

@@ -3,18 +3,18 @@
 ghost use mathlib.Core.Path.{_≡_};
 ghost use mathlib.Core.Bool.{not, _||_};
 ghost use Rattle.year.specs.Setup.{standardsInRange};
-ghost use Rattle.progress.specs.State.{shown, Consistent};
+ghost use Rattle.progress.specs.State.{progressOf, Consistent};
 ghost use Rattle.journal.specs.Read.{readJournal};
 ghost use Rattle.reference.specs.Call.{EnterChange, changeEvent, ofAmendment};
-ghost use Rattle.scan.specs.Scan.{Tells};
+ghost use Rattle.slots.specs.Scanned.{ScannedAs};
 ghost use Rattle.decisions.specs.Decisions.{decision, decisionOn, changeRefusal};
 use admission::period_fits;
+use conditions::row;
 use progress::Progress;
 use reference::Change;
 use refusals::entry_refusal;
-use refusals::row;
-use scan::Scanned;
 use schedule::standards_in_range;
+use slots::Scanned;
 use year::Event;
 
 pub enum Decision {
@@ -46,7 +46,7 @@ fn is_unfit(c: Change) -> bool
 // 15, of a change on a year that holds.
 fn change_refusal(p: Progress, c: Change) -> u8
     requires { ⌜ Consistent p ⌝ }
-    ensures { λ r. ⌜ r ≡ changeRefusal c (shown p) ⌝ }
+    ensures { λ r. ⌜ r ≡ changeRefusal c (progressOf p) ⌝ }
 {
     match c {
         Change::Amend(_) => 0,
@@ -68,7 +68,7 @@ fn change_event(c: Change) -> Event
 
 // The decision on a change: the rows that every entry may meet, and then its own.
 pub fn change(journal: &[u8], scanned: Scanned, c: Change) -> Decision
-    requires { ⌜ Tells scanned (readJournal (now journal)) ⌝ }
+    requires { ⌜ ScannedAs scanned (readJournal (now journal)) ⌝ }
     ensures { λ r. ⌜ r ≡ decisionOn (EnterChange c) (now (journal .entry)) ⌝ }
 {
     let refusal = entry_refusal(journal, is_unfit(c), scanned);

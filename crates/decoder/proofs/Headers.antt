@@ -1,5 +1,4 @@
 -- The header of a journal, read from its first 32 bytes: the bytes that a setup or the number of events says come back as they were.
--- Assumes nothing.
 use mathlib.Core.Path.{_≡_}
 use mathlib.Core.Bool.{_&&_, and-true, and-assoc}
 use mathlib.Core.List.{List}
@@ -7,7 +6,7 @@ use Prim.Native.Nat.{ℕ, _≤_}
 use native.Mathlib.Omega.{arith}
 use lib.Dec.{eqb}
 use lib.ListN.{length, getD, take, drop}
-use Rattle.buffers.proofs.Tests.{eqb-refl, eqb-sym}
+use Rattle.conditions.proofs.Tests.{eqb-refl, eqb-sym}
 use Rattle.buffers.specs.Bytes.{isZero}
 use Rattle.buffers.proofs.Lists.{part-elements}
 use Rattle.buffers.proofs.LittleEndian.{Bytes, low, high, low32, high32, upper32}

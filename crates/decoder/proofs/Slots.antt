@@ -1,5 +1,4 @@
 -- The tests of each kind of slot, on a part that begins with one.
--- Assumes nothing.
 use mathlib.Core.Path.{_≡_, refl}
 use mathlib.Core.Bool.{Bool, true, false, cond, _&&_, _||_, and-true}
 use mathlib.Core.List.{List}
@@ -9,7 +8,7 @@ use lib.Dec.{eqb}
 use lib.ListN.{length, getD, take, drop}
 use borrow.Author.Tests.{ne-eqb, eqb-true}
 use Rattle.buffers.specs.Bytes.{same, isZero}
-use Rattle.buffers.proofs.Tests.{eqb-refl, eqb-sym}
+use Rattle.conditions.proofs.Tests.{eqb-refl, eqb-sym}
 use Rattle.buffers.proofs.Lists.{part-elements}
 use Rattle.buffers.proofs.LittleEndian.{Bytes, low, high}
 use Rattle.year.specs.declared.Event.the-variants.{NextPeriod, Declaration}

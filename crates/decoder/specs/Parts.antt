@@ -1,11 +1,10 @@
 -- The part of a journal's header that the code reads by itself.
--- Assumes nothing.
 use mathlib.Core.Bool.{Bool}
 use mathlib.Core.List.{List, [], _∷_, _++_}
 use Prim.Native.Nat.{ℕ}
 use lib.ListN.{take}
 use Rattle.buffers.specs.Bytes.{same}
-use Rattle.buffers.specs.Text.{text}
+use Rattle.ascii.specs.Text.{text}
 
 -- "PLT" and the low byte of version 1, which no setup alters
 abbrev pub isStart : List ℕ → Bool

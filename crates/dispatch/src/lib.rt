@@ -6,19 +6,19 @@ ghost use Rattle.reference.specs.Call.{Marks, Write, Enter};
 ghost use Rattle.reference.specs.Answers.{journalAfter, answer};
 ghost use Rattle.protocol.specs.KeyLine.{engineFrom};
 ghost use Rattle.protocol.specs.Reply.{queryReply, callReply, commandReply, commandAfter};
-ghost use Rattle.requests.specs.Request.{entryFor, callFor, commandFor, EnoughForEntry, EnoughForCall, Enough};
+ghost use Rattle.parser.specs.Request.{entryFor, callFor, commandFor, EnoughForEntry, EnoughForCall, Enough};
 ghost use Rattle.replies.specs.Replied.{Replied};
 use entries::enter_change;
 use entries::enter_engine;
 use entries::set_up;
+use parser::request::CallRequest;
+use parser::request::EntryRequest;
+use parser::request::Request;
 use queries::write_marks;
 use reference::Answer;
 use replies::write_answer;
 use replies::write_marks_front;
 use replies::write_refusal;
-use requests::request::CallRequest;
-use requests::request::EntryRequest;
-use requests::request::Request;
 
 // "E: engine number, its HC+NOx readings, as many CO readings."
 fn enter_keyed(journal: &mut [u8], values: &[u32]) -> Answer

@@ -1,5 +1,4 @@
 -- One event more: a slot that was lent and filled, and then byte 24.
--- Assumes nothing.
 use mathlib.Core.Path.{_≡_}
 use mathlib.Core.List.{List}
 use Prim.Native.Nat.{ℕ, _+_, _-_, _≤_, _<_}

@@ -1,5 +1,4 @@
 -- What could have been entered fits the bytes that it is stored in.
--- Assumes nothing.
 use mathlib.Core.Path.{_≡_}
 use mathlib.Core.Bool.{true}
 use native.Mathlib.Omega.{arith}

@@ -1,5 +1,4 @@
 -- What the writers ask: what is stored in one byte fits it.
--- Assumes nothing.
 use Prim.Native.Nat.{_<_}
 use Rattle.year.specs.declared.Setup.{Setup}
 use Rattle.year.specs.declared.Event.{Event}

@@ -7,26 +7,26 @@ use native.Mathlib.Omega.{arith}
 use lib.Dec.{eqb, leb}
 use lib.ListN.{length}
 use borrow.Author.Tests.{eqb-true, leb-true}
-use Rattle.buffers.specs.Rows.{first, Numbered}
-use Rattle.buffers.proofs.Rows.{first-none, none-applies}
-use Rattle.buffers.proofs.Tests.{not-false}
+use Rattle.conditions.specs.Rows.{first, Numbered}
+use Rattle.conditions.proofs.Rows.{first-none, none-applies}
+use Rattle.conditions.proofs.Tests.{not-false}
 use Rattle.rounding.specs.Result.{countInRange, resultInRange}
 use Rattle.year.specs.declared.Event.{Event}
 use Rattle.year.specs.declared.Event.the-variants.{Engine}
 use Rattle.year.specs.Replay.{Progress, isTested}
 use Rattle.year.specs.Admissible.{enginesFull, resultsInRange}
-use Rattle.progress.specs.State.{shown}
+use Rattle.progress.specs.State.{progressOf}
 use Rattle.journal.specs.Read.{readJournal}
 use Rattle.reference.specs.Call.{Readings, EnterEngine, resultsOf, eventOf}
 use Rattle.reference.specs.Refusals.{refusals, countsFit}
-use Rattle.scan.specs.declared.Scanned.{Scanned}
-use Rattle.scan.specs.Scan.{Tells}
+use Rattle.slots.specs.declared.Scanned.{Scanned}
+use Rattle.slots.specs.Scanned.{ScannedAs}
 use Rattle.decisions.specs.declared.Decision.the-variants.{Add, Refuse}
 use Rattle.decisions.specs.Decisions.{decision, decisionOn}
 use Rattle.engine_decision.specs.Rows.{askedRows, workedRows, engineDecision}
 use Rattle.refusals.specs.Parts.{entryRows}
 use Rattle.refusals.proofs.Parts.{entry-held}
-use Rattle.refusals.proofs.ScannedYear.{told-test}
+use Rattle.refusals.proofs.ScannedYear.{scanned-test}
 use Rattle.decisions.proofs.Decided.{refused-by, passed-on, own-decides}
 
 module _ (number : ℕ) (readings : Readings) (p : Progress) where
@@ -74,12 +74,12 @@ module _ (number : ℕ) (readings : Readings) (p : Progress) (asked : first (ask
   results-added z = ap (λ r. decision r added) (sym z) ∙ by-results
 
 -- the whole table, on the year that a scan has told
-module _ (journal : List ℕ) (scanned : Scanned) (t : Tells scanned (readJournal journal)) where
+module _ (journal : List ℕ) (scanned : Scanned) (t : ScannedAs scanned (readJournal journal)) where
   pub engine-decided : (number : ℕ) (readings : Readings) → first (entryRows false journal) 0 ≡ 0
-      → engineDecision number readings (shown (scanned .progress)) ≡ decisionOn (EnterEngine number readings) journal
+      → engineDecision number readings (progressOf (scanned .progress)) ≡ decisionOn (EnterEngine number readings) journal
   unfolding refusals
   engine-decided number readings none =
-      let year = told-test scanned (readJournal journal) t (entry-held (EnterEngine number readings) journal none) in
+      let year = scanned-test scanned (readJournal journal) t (entry-held (EnterEngine number readings) journal none) in
       rw (
         ← year (λ x. isTested number (x .tested)),
         ← year (λ x. not (resultsInRange (resultsOf (x .setup) readings))),

@@ -5,7 +5,7 @@ use mathlib.Core.List.{List, [], _∷_}
 use Prim.Native.Nat.{ℕ}
 use lib.Dec.{leb}
 use lib.ListN.{length}
-use Rattle.buffers.specs.Rows.{Row, first}
+use Rattle.conditions.specs.Rows.{Row, first}
 use Rattle.rounding.specs.Result.{resultInRange}
 use Rattle.year.specs.Replay.{Progress, isTested}
 use Rattle.year.specs.Admissible.{numberInRange}

@@ -2,33 +2,33 @@
 mod readings;
 
 ghost use mathlib.Core.Path.{_≡_};
-ghost use Rattle.buffers.specs.Rows.{first};
-ghost use Rattle.progress.specs.State.{shown, Consistent};
+ghost use Rattle.conditions.specs.Rows.{first};
+ghost use Rattle.progress.specs.State.{progressOf, Consistent};
 ghost use Rattle.journal.specs.Read.{readJournal};
 ghost use Rattle.reference.specs.Call.{engineEntry};
-ghost use Rattle.scan.specs.Scan.{Tells};
+ghost use Rattle.slots.specs.Scanned.{ScannedAs};
 ghost use Rattle.decisions.specs.Decisions.{decisionOn};
 ghost use Rattle.engine_decision.specs.Rows.{askedRows, workedRows, engineDecision};
 use crate::readings::counts_fit;
 use crate::readings::readings_fit;
 use admission::number_in_range;
-use buffers::both;
-use buffers::either;
+use conditions::both;
+use conditions::either;
+use conditions::row;
 use decisions::Decision;
 use engines::lookup::is_tested;
 use progress::Progress;
 use refusals::entry_refusal;
-use refusals::row;
 use rounding::result_in_range;
 use rounding::result_of;
-use scan::Scanned;
+use slots::Scanned;
 use year::Event;
 use year::Pair;
 
 // 10, 11 and 12, which are asked before the results are worked.
 fn asked_refusal(p: Progress, number: u32, hcnox: &[u32], co: &[u32]) -> u8
     requires { ⌜ Consistent p ⌝ }
-    ensures { λ r. ⌜ r ≡ first (askedRows number (record { hcnox = now (hcnox .entry); co = now (co .entry) }) (shown p)) 0 ⌝ }
+    ensures { λ r. ⌜ r ≡ first (askedRows number (record { hcnox = now (hcnox .entry); co = now (co .entry) }) (progressOf p)) 0 ⌝ }
 {
     let engines = p.engines;
     if either(!number_in_range(number), is_tested(engines, number)) {
@@ -54,7 +54,7 @@ fn worked_refusal(hcnox: u64, co: u64, count: usize) -> u8
 // On a year that none of the rows that every entry may meet stands against.
 fn engine_decision(p: Progress, number: u32, hcnox: &[u32], co: &[u32]) -> Decision
     requires { ⌜ Consistent p ⌝ }
-    ensures { λ r. ⌜ r ≡ engineDecision number (record { hcnox = now (hcnox .entry); co = now (co .entry) }) (shown p) ⌝ }
+    ensures { λ r. ⌜ r ≡ engineDecision number (record { hcnox = now (hcnox .entry); co = now (co .entry) }) (progressOf p) ⌝ }
 {
     let asked = asked_refusal(p, number, hcnox, co);
     if asked != 0 {
@@ -78,7 +78,7 @@ fn engine_decision(p: Progress, number: u32, hcnox: &[u32], co: &[u32]) -> Decis
 }
 
 pub fn engine(journal: &[u8], scanned: Scanned, number: u32, hcnox: &[u32], co: &[u32]) -> Decision
-    requires { ⌜ Tells scanned (readJournal (now journal)) ⌝ }
+    requires { ⌜ ScannedAs scanned (readJournal (now journal)) ⌝ }
     ensures { λ r. ⌜ r ≡ decisionOn (engineEntry number (now (hcnox .entry)) (now (co .entry))) (now (journal .entry)) ⌝ }
 {
     let refusal = entry_refusal(journal, false, scanned);

@@ -1,7 +1,7 @@
 // What the table asks of an engine's readings.
 ghost use mathlib.Core.Path.{_≡_};
 ghost use Rattle.reference.specs.Refusals.{countsFit, allInRange, readingsFit};
-use buffers::both;
+use conditions::both;
 use rounding::reading_in_range;
 
 // As many readings for each pollutant, 1 to 3.

@@ -1,5 +1,4 @@
 -- Laws of the arrays of tested engines: how many engines they say, one pollutant's part, an earlier part, one engine more.
--- Assumes nothing.
 use mathlib.Core.Path.{_≡_, refl, sym, ap, _∙_}
 use mathlib.Core.Bool.{Bool, false, _||_}
 use mathlib.Core.List.{List, _∷_}
@@ -19,7 +18,7 @@ use Rattle.year.specs.Replay.{Tested, history, isTested}
 use Rattle.figures.specs.declared.Running.{Running}
 use Rattle.figures.specs.Running.{running, RunningInRange}
 use Rattle.engines.specs.declared.Engines.{Engines}
-use Rattle.engines.specs.Engines.{resultsOf, standardsOf, testedAt, testedTo, tested, testsTo, EngineInRange, EnginesInRange, ColumnsInRange}
+use Rattle.engines.specs.Engines.{resultColumn, standardColumn, testedAt, testedTo, tested, testsTo, EngineInRange, EnginesInRange, ColumnsInRange}
 use Rattle.engines.proofs.Sized.{Sized}
 
 pub tests-length : (xs ts : List ℕ) (n : ℕ) → length (testsTo xs ts n) ≡ n
@@ -31,7 +30,7 @@ tested-length e zero = refl
 tested-length e (suc n) = ap suc (tested-length e n)
 
 -- a pollutant's arrays say its history
-pub tested-history : (q : Pollutant) (e : Engines) (n : ℕ) → history q (testedTo e n) ≡ testsTo (resultsOf q e) (standardsOf q e) n
+pub tested-history : (q : Pollutant) (e : Engines) (n : ℕ) → history q (testedTo e n) ≡ testsTo (resultColumn q e) (standardColumn q e) n
 tested-history q e zero = refl
 tested-history Hcnox e (suc n) = ap (λ (h : List Test). record { result = getD (e .«hcnox_results») n 0; standard = getD (e .«hcnox_standards») n 0 } ∷ h) (tested-history Hcnox e n)
 tested-history Co e (suc n) = ap (λ (h : List Test). record { result = getD (e .«co_results») n 0; standard = getD (e .«co_standards») n 0 } ∷ h) (tested-history Co e n)
@@ -97,11 +96,11 @@ module _ (e : Engines) (number period : ℕ) (results standards : Pair) where
   pub with-engine-sized : Sized e → Sized with-engine
   with-engine-sized s = record { numbers = rw length-set (s .numbers); periods = rw length-set (s .periods); results = results-kept; standards = standards-kept }
     where
-      results-kept : (q : Pollutant) → length (resultsOf q with-engine) ≡ 40
+      results-kept : (q : Pollutant) → length (resultColumn q with-engine) ≡ 40
       results-kept Hcnox = rw length-set (s .results Hcnox)
       results-kept Co = rw length-set (s .results Co)
 
-      standards-kept : (q : Pollutant) → length (standardsOf q with-engine) ≡ 40
+      standards-kept : (q : Pollutant) → length (standardColumn q with-engine) ≡ 40
       standards-kept Hcnox = rw length-set (s .standards Hcnox)
       standards-kept Co = rw length-set (s .standards Co)
 
@@ -116,10 +115,10 @@ tested-among e number (suc i) = ap (λ (b : Bool). eqb (getD (e .numbers) i 0) n
 
 -- of engines in range, each pollutant's arrays are; and the figures worked from them are those of its history
 module _ (q : Pollutant) (e : Engines) (k : ℕ) where
-  pub columns-fit : EnginesInRange e k → ColumnsInRange (resultsOf q e) (standardsOf q e) (e .count) k
+  pub columns-fit : EnginesInRange e k → ColumnsInRange (resultColumn q e) (standardColumn q e) (e .count) k
   columns-fit r = record { history = rw (← tested-history q e (e .count)) (r .histories q); fine = r .fine }
 
-  pub reworked : (f : Running) → f ≡ running k (testsTo (resultsOf q e) (standardsOf q e) (e .count)) → f ≡ running k (history q (tested e))
+  pub reworked : (f : Running) → f ≡ running k (testsTo (resultColumn q e) (standardColumn q e) (e .count)) → f ≡ running k (history q (tested e))
   reworked f w = w ∙ ap (running k) (sym (tested-history q e (e .count)))
 
 -- figures worked from the arrays: how many engines there are, the ranges of an earlier part, and the room for the newest engine

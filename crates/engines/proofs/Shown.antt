@@ -1,5 +1,4 @@
 -- The figures of a status from the running figures: before engine 2, and from it on; and the stop test.
--- Assumes nothing.
 use mathlib.Core.Path.{_≡_}
 use mathlib.Core.List.{List, [], _∷_}
 use Prim.Native.Nat.{ℕ}

@@ -1,5 +1,4 @@
 -- An array of the struct has its 40 places, and an engine number is below 65,536: what the type of a parameter says of it.
--- Assumes nothing.
 use mathlib.Core.Path.{_≡_, sym, _∙_}
 use mathlib.Core.List.{List, [], _∷_, map}
 use Prim.Native.Nat.{ℕ, zero, suc, _<_}
@@ -14,14 +13,14 @@ use denote.Laws.{Is}
 use denote.Struct.Declared.{row}
 use Rattle.year.specs.Setup.{Pollutant, Hcnox, Co}
 use Rattle.engines.specs.declared.Engines.{Engines}
-use Rattle.engines.specs.Engines.{resultsOf, standardsOf}
+use Rattle.engines.specs.Engines.{resultColumn, standardColumn}
 use Rattle.engines.proofs.Engines as engines-type
 
 pub record Sized (e : Engines) : Type 0 where
   pub numbers : length (e .numbers) ≡ 40
   pub periods : length (e .periods) ≡ 40
-  pub results : (q : Pollutant) → length (resultsOf q e) ≡ 40
-  pub standards : (q : Pollutant) → length (standardsOf q e) ≡ 40
+  pub results : (q : Pollutant) → length (resultColumn q e) ≡ 40
+  pub standards : (q : Pollutant) → length (standardColumn q e) ≡ 40
 
 -- each number of an array of u16 is below 65,536
 each-fits : (xs : List ℕ) (us : List Val) → shadow (each ℕ (UInt w16 .own) (map (λ v. v) xs) us) → (i : ℕ) → getD xs i 0 < 65536
@@ -31,11 +30,11 @@ each-fits (x ∷ xs) (u ∷ us) p zero = p .0 .1
 each-fits (x ∷ xs) (u ∷ us) p (suc i) = each-fits xs us (p .1) i
 
 module _ (e : Engines) (vs : List Val) (p : Is (row engines-type.the-type) e vs) where
-  results-sized : (q : Pollutant) → length (resultsOf q e) ≡ 40
+  results-sized : (q : Pollutant) → length (resultColumn q e) ≡ 40
   results-sized Hcnox = sym (length-map (e .«hcnox_results») _) ∙ p .1 .1 .1 .1 .1 .0 .1 .0 .1
   results-sized Co = sym (length-map (e .«co_results») _) ∙ p .1 .1 .1 .1 .1 .1 .1 .0 .1 .0 .1
 
-  standards-sized : (q : Pollutant) → length (standardsOf q e) ≡ 40
+  standards-sized : (q : Pollutant) → length (standardColumn q e) ≡ 40
   standards-sized Hcnox = sym (length-map (e .«hcnox_standards») _) ∙ p .1 .1 .1 .1 .1 .1 .0 .1 .0 .1
   standards-sized Co = sym (length-map (e .«co_standards») _) ∙ p .1 .1 .1 .1 .1 .1 .1 .1 .0 .1 .0 .1
 

@@ -1,5 +1,4 @@
 -- What the arrays of tested engines say, in the words of the definitions: the list of tested engines, the newest first.
--- Assumes nothing.
 use mathlib.Core.List.{List, [], _∷_}
 use Prim.Native.Nat.{ℕ, zero, suc, _≤_, _<_}
 use lib.ListN.{getD}
@@ -11,13 +10,13 @@ use Rattle.year.specs.Replay.{Tested, history}
 use Rattle.engines.specs.declared.Engines.{Engines}
 
 -- a pollutant's arrays
-abbrev pub resultsOf : Pollutant → Engines → List ℕ
-resultsOf Hcnox e = e .«hcnox_results»
-resultsOf Co e = e .«co_results»
+abbrev pub resultColumn : Pollutant → Engines → List ℕ
+resultColumn Hcnox e = e .«hcnox_results»
+resultColumn Co e = e .«co_results»
 
-abbrev pub standardsOf : Pollutant → Engines → List ℕ
-standardsOf Hcnox e = e .«hcnox_standards»
-standardsOf Co e = e .«co_standards»
+abbrev pub standardColumn : Pollutant → Engines → List ℕ
+standardColumn Hcnox e = e .«hcnox_standards»
+standardColumn Co e = e .«co_standards»
 
 -- the engine at a place
 abbrev pub testedAt : Engines → ℕ → Tested

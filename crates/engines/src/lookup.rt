@@ -4,7 +4,7 @@ ghost use Prim.Native.Nat.{_≤_};
 ghost use Rattle.year.specs.Replay.{isTested};
 ghost use Rattle.engines.specs.Engines.{tested};
 use crate::Engines;
-use buffers::either;
+use conditions::either;
 
 pub fn is_tested(e: Engines, number: u32) -> bool
     requires { ⌜ e .count ≤ 40 ⌝ }

@@ -4,12 +4,12 @@ use mathlib.Core.List.{List}
 use Prim.Native.Nat.{ℕ}
 use lib.Dec.{eqb}
 use borrow.Author.Tests.{eqb-true, eqb-false}
-use Rattle.buffers.proofs.Tests.{by-test}
+use Rattle.conditions.proofs.Tests.{by-test}
 use Rattle.year.specs.declared.Setup.{Setup}
 use Rattle.year.specs.declared.Event.{Event}
 use Rattle.year.specs.Replay.{replay}
 use Rattle.year.specs.Model.{Year}
-use Rattle.progress.specs.State.{shown}
+use Rattle.progress.specs.State.{progressOf}
 use Rattle.journal.specs.Read.{readJournal}
 use Rattle.reference.specs.Call.{Entry, Enter, eventOf}
 use Rattle.reference.specs.Answers.{refusalOn, journalAfter, answer}
@@ -17,21 +17,21 @@ use Rattle.reference.specs.declared.Answer.{Answer}
 use Rattle.reference.proofs.Given.{held-year, accepted-answer, refused-answer, accepted-size, accepted-year, entry-admissible, entry-room}
 use Rattle.reference.proofs.Demand1.{demand-1}
 use Rattle.reference.proofs.Demand2.{demand-2}
-use Rattle.scan.specs.declared.Scanned.{Scanned}
-use Rattle.scan.specs.Scan.{progressOf, Tells}
+use Rattle.slots.specs.declared.Scanned.{Scanned}
+use Rattle.slots.specs.Scanned.{replayed, ScannedAs}
 use Rattle.decisions.specs.declared.Decision.{Decision}
 use Rattle.decisions.specs.declared.Decision.the-variants.{Add, Refuse}
 use Rattle.decisions.specs.Decisions.{decisionOn}
-use Rattle.refusals.proofs.ScannedYear.{told-consistent}
+use Rattle.refusals.proofs.ScannedYear.{scanned-consistent}
 use Rattle.entries.specs.Entering.{CanAdd, Enterable, answerTo, journalWith}
 use Rattle.reference.proofs.Promises.{Promised, promised}
 
-module _ (entry : Entry) (journal : List ℕ) (scanned : Scanned) (t : Tells scanned (readJournal journal)) where
+module _ (entry : Entry) (journal : List ℕ) (scanned : Scanned) (t : ScannedAs scanned (readJournal journal)) where
   abbrev number : ℕ
   number = refusalOn (Enter entry) journal
 
   abbrev event : Event
-  event = eventOf (progressOf (readJournal journal)) entry
+  event = eventOf (replayed (readJournal journal)) entry
 
   -- an entry is accepted, on a year, or refused
   by-decision : (P : Decision → Type 0) → ((s : Setup) (es : List Event) → readJournal journal ≡ Year s es → number ≡ 0 → P (Add event))
@@ -42,8 +42,8 @@ module _ (entry : Entry) (journal : List ℕ) (scanned : Scanned) (t : Tells sca
       accepted h = let year = held-year (readJournal journal) (accepted-year (Enter entry) journal h refl) in f (year .0) (year .1) (year .2) h
 
   module _ (s : Setup) (es : List Event) (e : readJournal journal ≡ Year s es) where
-    year-is : shown (scanned .progress) ≡ replay s es
-    year-is = t .year ∙ ap progressOf e
+    year-is : progressOf (scanned .progress) ≡ replay s es
+    year-is = t .year ∙ ap replayed e
 
     event-is : event ≡ eventOf (replay s es) entry
     event-is = rw e
@@ -53,11 +53,11 @@ module _ (entry : Entry) (journal : List ℕ) (scanned : Scanned) (t : Tells sca
         record {
           size = accepted-size (Enter entry) journal h;
           room = entry-room entry journal s es e h;
-          consistent = told-consistent scanned (readJournal journal) t (accepted-year (Enter entry) journal h refl);
+          consistent = scanned-consistent scanned (readJournal journal) t (accepted-year (Enter entry) journal h refl);
           admitted = rw (year-is, event-is) (entry-admissible entry journal s es e h);
         }
 
-    added-answer : number ≡ 0 → answerTo (Add event) (shown (scanned .progress)) ≡ answer (Enter entry) journal
+    added-answer : number ≡ 0 → answerTo (Add event) (progressOf (scanned .progress)) ≡ answer (Enter entry) journal
     added-answer h = rw (accepted-answer (Enter entry) journal h, demand-2 .entered entry journal s es e h, year-is, event-is)
 
     added-journal : number ≡ 0 → journalWith (Add event) journal ≡ journalAfter (Enter entry) journal
@@ -66,15 +66,15 @@ module _ (entry : Entry) (journal : List ℕ) (scanned : Scanned) (t : Tells sca
   pub enterable : (d : Decision) → d ≡ decisionOn entry journal → Enterable journal (scanned .progress) d
   enterable d e = rw e (by-decision (λ d. Enterable journal (scanned .progress) d) can-add (λ _. tt))
 
-  entered-answer : answerTo (decisionOn entry journal) (shown (scanned .progress)) ≡ answer (Enter entry) journal
+  entered-answer : answerTo (decisionOn entry journal) (progressOf (scanned .progress)) ≡ answer (Enter entry) journal
   entered-answer =
-      by-decision (λ d. answerTo d (shown (scanned .progress)) ≡ answer (Enter entry) journal) added-answer (λ f. sym (refused-answer (Enter entry) journal f))
+      by-decision (λ d. answerTo d (progressOf (scanned .progress)) ≡ answer (Enter entry) journal) added-answer (λ f. sym (refused-answer (Enter entry) journal f))
 
   entered-journal : journalWith (decisionOn entry journal) journal ≡ journalAfter (Enter entry) journal
   entered-journal =
       by-decision (λ d. journalWith d journal ≡ journalAfter (Enter entry) journal) added-journal (λ f. sym (demand-1 .refusedJournal (Enter entry) journal f))
 
   -- what a call that enters promises
-  pub entered : (d : Decision) → d ≡ decisionOn entry journal → (r : Answer) (left : List ℕ) → r ≡ answerTo d (shown (scanned .progress)) → left ≡ journalWith d journal
+  pub entered : (d : Decision) → d ≡ decisionOn entry journal → (r : Answer) (left : List ℕ) → r ≡ answerTo d (progressOf (scanned .progress)) → left ≡ journalWith d journal
       → Promised (Enter entry) journal r left
   entered d e r left a j = promised (Enter entry) journal r left (rw e at a ∙ entered-answer) (rw e at j ∙ entered-journal)

@@ -9,7 +9,7 @@ use Rattle.year.specs.Replay.{Progress, after}
 use Rattle.year.specs.Admissible.{admissible}
 use Rattle.year.specs.Status.{status}
 use Rattle.progress.specs.declared.Progress.{Progress as State}
-use Rattle.progress.specs.State.{shown, Consistent}
+use Rattle.progress.specs.State.{progressOf, Consistent}
 use Rattle.journal.specs.Encode.{append}
 use Rattle.reference.specs.declared.Answer.{Answer}
 use Rattle.reference.specs.declared.Answer.the-variants.{Accepted, Refused}
@@ -21,7 +21,7 @@ pub record CanAdd (journal : List ℕ) (p : State) (e : Event) : Type 0 where
   pub size : length journal ≡ 544
   pub room : getD journal 24 0 < 64
   pub consistent : Consistent p
-  pub admitted : admissible (shown p) e ≡ true
+  pub admitted : admissible (progressOf p) e ≡ true
 
 abbrev pub Enterable : List ℕ → State → Decision → Type 0
 Enterable journal p (Add e) = CanAdd journal p e

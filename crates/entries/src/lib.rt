@@ -1,7 +1,7 @@
 // The public calls that write the journal: setup, and the entries of an engine and of a change. None asks anything of its arguments or of what is lent to it. Each promises its whole answer
 // (its value, which pins the case, and what it tells in the specification's numbers, `outcome`) and every byte of each buffer that it may write, refused or not.
 ghost use mathlib.Core.Path.{_≡_};
-ghost use Rattle.progress.specs.State.{shown};
+ghost use Rattle.progress.specs.State.{progressOf};
 ghost use Rattle.reference.specs.Call.{engineEntry, EnterChange, SetUp, Enter};
 ghost use Rattle.reference.specs.Answers.{journalAfter, answer, outcomeOf, outcome};
 ghost use Rattle.entries.specs.Entering.{Enterable, answerTo, journalWith};
@@ -37,7 +37,7 @@ pub fn set_up(journal: &mut [u8], s: Setup) -> Answer
 // What was decided on an entry is done: an event is written into its slot, and the status of the year with it is given.
 fn enter(journal: &mut [u8], p: Progress, decision: Decision) -> Answer
     requires { ⌜ Enterable (now journal) p decision ⌝ }
-    ensures { λ r. ⌜ r ≡ answerTo decision (shown p) ⌝ }
+    ensures { λ r. ⌜ r ≡ answerTo decision (progressOf p) ⌝ }
     ensures { λ _. ⌜ now (journal .exit) ≡ journalWith decision (now (journal .entry)) ⌝ }
 {
     match decision {

@@ -7,8 +7,8 @@ use native.Mathlib.Omega.{arith}
 use lib.Dec.{eqb}
 use lib.ListN.{length}
 use borrow.Author.Tests.{le-ltb}
-use Rattle.buffers.specs.Rows.{Row, first}
-use Rattle.buffers.proofs.Tests.{by-test}
+use Rattle.conditions.specs.Rows.{Row, first}
+use Rattle.conditions.proofs.Tests.{by-test}
 use Rattle.year.specs.Model.{Model}
 use Rattle.journal.specs.Read.{readJournal}
 use Rattle.reference.specs.declared.Answer.{Answer}

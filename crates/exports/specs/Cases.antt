@@ -3,7 +3,7 @@
 use mathlib.Core.Path.{_≡_}
 use mathlib.Core.List.{[], _∷_}
 use Rattle.buffers.specs.Bytes.{zeros}
-use Rattle.buffers.specs.Text.{byte, text}
+use Rattle.ascii.specs.Text.{byte, text}
 use Rattle.statistics.specs.declared.SampleSize.the-variants.{Tenths}
 use Rattle.cumsum.specs.declared.Mark.the-variants.{Under, Undecided}
 use Rattle.year.specs.declared.Status.{Status}

@@ -1,5 +1,4 @@
 -- The running figures of one pollutant: before engine 2, with one engine more, the room that one engine more needs, and that of a sample size.
--- Assumes nothing.
 use mathlib.Core.Path.{_≡_, ap}
 use mathlib.Core.Bool.{false, _||_}
 use mathlib.Core.List.{List, [], _∷_}
@@ -21,7 +20,7 @@ use Rattle.cumsum.specs.declared.Mark.{Mark}
 use Rattle.cumsum.specs.declared.Mark.the-variants.{Unmarked}
 use Rattle.figures.specs.declared.Running.{Running}
 use Rattle.cumsum.specs.Intervals.{nextCumsum, cumsum, limitOf}
-use Rattle.cumsum.specs.Marks.{compared, bothOver, openPair, failed, undecided}
+use Rattle.cumsum.specs.Marks.{compared, bothOver, undecidedPair, failed, undecided}
 use Rattle.figures.specs.Running.{newestStandard, running, NextInRange, RunningInRange, Worked}
 use Rattle.cumsum.proofs.Finer.{cumsum-width}
 
@@ -63,7 +62,7 @@ module _ (k : ℕ) where
         limit = l;
         mark = m;
         failed = bothOver m (f .mark) || f .failed;
-        undecided = openPair m (f .mark) || f .undecided;
+        undecided = undecidedPair m (f .mark) || f .undecided;
       } ≡ running k (x ∷ h)
   unfolding running failed undecided
   later f x s d c l m [] ef es two ed ec el em = absurd (omega (arith, ap (λ (z : Sums). z .n) es))

@@ -1,5 +1,4 @@
 -- The worked cases of the stored journal: each is computed.
--- Assumes nothing.
 use mathlib.Core.Path.{refl}
 use Rattle.rounding.specs.Result.{nearestEven}
 use Rattle.statistics.specs.SampleSize.{sizeReached}

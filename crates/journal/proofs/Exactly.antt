@@ -1,5 +1,4 @@
 -- A buffer is accepted exactly if its parts are as document 01 says: size, header, number of events, events in their order, unused slots.
--- Assumes nothing.
 use mathlib.Core.Path.{_≡_, refl, sym, ap, _∙_}
 use mathlib.Core.Bool.{Bool, true, false, cond, _&&_, and-true, and-false, and-assoc, and-eq-true-iff}
 use mathlib.Core.List.{List, _++_}

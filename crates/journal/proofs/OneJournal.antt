@@ -1,5 +1,4 @@
 -- Demand 2 of the stored form.
--- Assumes nothing.
 use native.Mathlib.Omega.{arith}
 use Rattle.year.proofs.Replayed.{replay-stored}
 use Rattle.year.proofs.Ranges.{valid-in-range}

@@ -1,7 +1,6 @@
 -- Document 01, "The book", told part by part: "A book is accepted exactly if its first 32 bytes are as above and its events could have been entered in that
 -- order", with "Unnamed bytes and unused slots are zero." That `readJournal` accepts exactly these is `ifAcceptable` and
 -- `onlyIfAcceptable` of OneJournal.
--- Assumes nothing.
 use mathlib.Core.Path.{_≡_}
 use mathlib.Core.Bool.{Bool, true, _&&_}
 use mathlib.Core.List.{List}

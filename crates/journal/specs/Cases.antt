@@ -1,5 +1,4 @@
 -- Worked cases of the stored journal, on document 01's printed run.
--- Assumes nothing.
 use mathlib.Core.Path.{_≡_}
 use mathlib.Core.List.{List, [], _∷_, _++_}
 use Prim.Native.Nat.{ℕ}

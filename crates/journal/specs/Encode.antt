@@ -1,10 +1,9 @@
 -- Document 01, "The book": the 544 bytes of a setup and its events, little-endian. Events are listed with the newest first.
--- Assumes nothing.
 use mathlib.Core.List.{List, [], _∷_, _++_}
 use Prim.Native.Nat.{ℕ, _+_, _-_, _*_}
 use lib.ListN.{length, getD}
 use Rattle.buffers.specs.Bytes.{put, zeros, bytes16, bytes32}
-use Rattle.buffers.specs.Text.{text}
+use Rattle.ascii.specs.Text.{text}
 use Rattle.year.specs.declared.Setup.{Setup}
 use Rattle.year.specs.declared.Event.{Event}
 use Rattle.year.specs.declared.Event.the-variants.{Engine, Amendment, NextPeriod, Declaration}

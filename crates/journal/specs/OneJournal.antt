@@ -1,6 +1,5 @@
 -- Demand 2: "For one setup, every list of accepted events .. has one book, and every accepted book reads back as its setup and list."
 -- The whole of it: what is stored is read back, what is read back was stored so, and nothing else is accepted, whatever the buffer.
--- Assumes nothing.
 use mathlib.Core.Path.{_≡_}
 use mathlib.Core.Bool.{true}
 use mathlib.Core.List.{List, _∷_}

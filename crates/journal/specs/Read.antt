@@ -1,6 +1,5 @@
 -- Document 01, "The book": what a buffer of any length and content is read as. A setup and events are taken from the bytes, whatever they are; the journal is
 -- accepted exactly if these are the bytes of that setup and those events, and they could have been entered in that order.
--- Assumes nothing.
 use mathlib.Core.Bool.{cond, _&&_}
 use mathlib.Core.List.{List, [], _∷_}
 use Prim.Native.Nat.{ℕ, zero, suc}

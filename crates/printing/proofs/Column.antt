@@ -1,5 +1,4 @@
 -- A pollutant's column of marks while it is filled, engine by engine: the room that the work at an engine needs, and C and the mark from what is carried.
--- Assumes nothing.
 use mathlib.Core.Path.{_≡_, refl, ap, _∙_}
 use mathlib.Core.List.{List, [], _∷_}
 use Prim.Native.Nat.{ℕ, suc, _+_, _≤_, _<_}
@@ -8,7 +7,7 @@ use native.Mathlib.Omega.{arith}
 use borrow.Author.Count.{below-more}
 use lib.ListN.{length, getD, set, replicate, length-set}
 use lib.Seq.{getD-set-same, getD-set-other}
-use Rattle.buffers.specs.Text.{byte}
+use Rattle.ascii.specs.Text.{byte}
 use Rattle.statistics.specs.declared.Deviation.{Deviation}
 use Rattle.statistics.specs.Spread.{Test, deviation}
 use Rattle.estimates.specs.declared.Sums.{Sums}

@@ -1,5 +1,4 @@
 -- The bytes of the marks of the engines before a place, with one engine more, and a buffer in which they stand.
--- Assumes nothing.
 use mathlib.Core.Path.{_≡_, ap, _∙_}
 use mathlib.Core.List.{List, [], _∷_, _++_, map, map-append}
 use Prim.Native.Nat.{ℕ, suc, _+_, _*_, _≤_, _<_}
@@ -14,7 +13,7 @@ use Rattle.year.specs.Replay.{history}
 use Rattle.year.specs.Status.{printedMarks}
 use Rattle.year.proofs.Kept.{printed-length}
 use Rattle.engines.specs.declared.Engines.{Engines}
-use Rattle.engines.specs.Engines.{resultsOf, standardsOf, testedTo, EnginesInRange}
+use Rattle.engines.specs.Engines.{resultColumn, standardColumn, testedTo, EnginesInRange}
 use Rattle.engines.proofs.Arrays.{tested-length, tested-history, columns-fit, columns-few}
 use Rattle.printing.specs.Columns.{MarkedTo}
 
@@ -24,11 +23,11 @@ module _ (k : ℕ) (e : Engines) where
   bytesTo i = map markByte (printedMarks judged k (testedTo e i))
 
   pub few : EnginesInRange e k → e .count ≤ 40
-  few r = columns-few (resultsOf Hcnox e) (standardsOf Hcnox e) k (e .count) (columns-fit Hcnox e k r)
+  few r = columns-few (resultColumn Hcnox e) (standardColumn Hcnox e) k (e .count) (columns-fit Hcnox e k r)
 
   -- a pollutant's column of marks, and the byte of an engine in it
   abbrev pub ColumnOf : Pollutant → List ℕ → Type 0
-  ColumnOf q column = MarkedTo k (resultsOf q e) (standardsOf q e) (e .count) column
+  ColumnOf q column = MarkedTo k (resultColumn q e) (standardColumn q e) (e .count) column
 
   byte-is : (q : Pollutant) (column : List ℕ) → ColumnOf q column → (i : ℕ) → i < e .count → getD column i 0 ≡ markByte (mark k (history q (testedTo e (i + 1))))
   byte-is q column m i h = rw tested-history (m i h)

@@ -1,5 +1,4 @@
 -- A pollutant's marks as a column of bytes, one for each engine.
--- Assumes nothing.
 use mathlib.Core.Path.{_≡_}
 use mathlib.Core.List.{List}
 use Prim.Native.Nat.{ℕ, _+_, _<_}

@@ -1,5 +1,4 @@
 -- What is carried beside the year, taken apart: the number of engines, and each pollutant's figures with their ranges.
--- Assumes nothing.
 use mathlib.Core.Path.{_≡_, ap}
 use mathlib.Core.Bool.{true}
 use Prim.Native.Nat.{ℕ, _≤_, _<_}
@@ -18,7 +17,7 @@ use Rattle.figures.specs.Running.{running, RunningInRange, Worked}
 use Rattle.engines.specs.Engines.{tested, EngineInRange}
 use Rattle.engines.proofs.Arrays.{tested-length}
 use Rattle.progress.specs.declared.Progress.{Progress as State}
-use Rattle.progress.specs.State.{shown, Consistent}
+use Rattle.progress.specs.State.{progressOf, Consistent}
 
 -- a pollutant's figures of a state
 abbrev pub figuresOf : Pollutant → State → Running
@@ -42,7 +41,7 @@ module _ (p : State) (c : Consistent p) where
   carried Hcnox = c .figures .hcnox
   carried Co = c .figures .co
 
-  -- figures of the year at a resolution: the ranges of what is shown, and the flags
+  -- figures of the year at a resolution: the ranges of what is progressOf, and the flags
   module _ (k : ℕ) (q : Pollutant) (f : Running) (e : f ≡ running k (history q (tested (p .engines)))) where
     pub shown-fits : Worked f
     shown-fits = record { resolution = k; history = history q (tested (p .engines)); worked = e; inRange = c .inRange .histories q }
@@ -56,9 +55,9 @@ module _ (p : State) (c : Consistent p) where
     undecided-is = ap (λ (g : Running). g .undecided) e
 
   -- an engine that could be entered has room
-  pub room : (number readings : ℕ) (results : Pair) → admissible (shown p) (Engine number readings results) ≡ true → Room p number results
+  pub room : (number readings : ℕ) (results : Pair) → admissible (progressOf p) (Engine number readings results) ≡ true → Room p number results
   room number readings results h =
-      let a = admitted-engine (shown p) number readings results h in
+      let a = admitted-engine (progressOf p) number readings results h in
       let place : p .engines .count < 40 = omega (arith, a .room, counted) in
       record {
         engine = record { place = place; number = a .number; results = a .results; standards = standard-le (p .standards) (c .inRange .standards); period = c .inRange .period };

@@ -1,5 +1,4 @@
 -- The state of a setup, and of one event more: it stands for the year with that event, and what it carries is worked from it.
--- Assumes nothing.
 use mathlib.Core.Path.{_≡_, refl, sym, subst}
 use mathlib.Core.Bool.{Bool, true, false}
 use mathlib.Core.List.{List, [], _∷_}
@@ -21,11 +20,11 @@ use Rattle.figures.specs.Running.{running}
 use Rattle.engines.specs.declared.Engines.{Engines}
 use Rattle.engines.specs.Engines.{tested}
 use Rattle.progress.specs.declared.Progress.{Progress as State}
-use Rattle.progress.specs.State.{shown, Figured, Consistent}
+use Rattle.progress.specs.State.{progressOf, Figured, Consistent}
 
 -- the state stands for this year, and is consistent
 abbrev pub Stands : State → Progress → Type 0
-Stands p y = (shown p ≡ y) × Consistent p
+Stands p y = (progressOf p ≡ y) × Consistent p
 
 -- the state before the first event
 abbrev first : Setup → Engines → Running → Running → State
@@ -33,7 +32,7 @@ first s e h c =
     record { setup = s; standards = s .standards; period = 1; engines = e; stored = 0; declared = false; current = 0; hcnox = h; co = c }
 
 pub started : (s : Setup) (e : Engines) (h c : Running) → tested e ≡ [] → h ≡ running 1024 [] → c ≡ running 1024 []
-    → (shown (first s e h c) ≡ start s) × (setupInRange s ≡ true → Consistent (first s e h c))
+    → (progressOf (first s e h c) ≡ start s) × (setupInRange s ≡ true → Consistent (first s e h c))
 started s e h c te hh hc =
     (stands, λ r. record { inRange = subst InRange (sym stands) (start-in-range s r); current = rw te; figures = record { hcnox = rw te hh; co = rw te hc } })
   where
@@ -57,23 +56,23 @@ changed p standards period declared current =
 
 module _ (p : State) (c : Consistent p) where
   -- a state that shows the year with one event more stands for it, if its period's engines are counted and its figures worked
-  stepped : (e : Event) → admissible (shown p) e ≡ true → (s : State) → shown s ≡ after e (shown p)
-      → s .current ≡ testedIn (s .period) (tested (s .engines)) → Figured 1024 (s .engines) (s .hcnox) (s .co) → Stands s (after e (shown p))
-  stepped e a s is n f = (is, record { inRange = subst InRange (sym is) (after-in-range e (shown p) (c .inRange) a); current = n; figures = f })
+  stepped : (e : Event) → admissible (progressOf p) e ≡ true → (s : State) → progressOf s ≡ after e (progressOf p)
+      → s .current ≡ testedIn (s .period) (tested (s .engines)) → Figured 1024 (s .engines) (s .hcnox) (s .co) → Stands s (after e (progressOf p))
+  stepped e a s is n f = (is, record { inRange = subst InRange (sym is) (after-in-range e (progressOf p) (c .inRange) a); current = n; figures = f })
 
-  pub amended : (t : Pair) → admissible (shown p) (Amendment t) ≡ true
-      → Stands (changed p t (p .period) (p .declared) (p .current)) (after (Amendment t) (shown p))
+  pub amended : (t : Pair) → admissible (progressOf p) (Amendment t) ≡ true
+      → Stands (changed p t (p .period) (p .declared) (p .current)) (after (Amendment t) (progressOf p))
   amended t a = stepped (Amendment t) a _ refl (c .current) (c .figures)
 
-  pub next-period : admissible (shown p) NextPeriod ≡ true → Stands (changed p (p .standards) (p .period + 1) (p .declared) 0) (after NextPeriod (shown p))
+  pub next-period : admissible (progressOf p) NextPeriod ≡ true → Stands (changed p (p .standards) (p .period + 1) (p .declared) 0) (after NextPeriod (progressOf p))
   next-period a = stepped NextPeriod a _ refl (sym (none-in-next (p .period) (tested (p .engines)) (c .inRange .periods))) (c .figures)
 
-  pub declared : admissible (shown p) Declaration ≡ true → Stands (changed p (p .standards) (p .period) true (p .current)) (after Declaration (shown p))
+  pub declared : admissible (progressOf p) Declaration ≡ true → Stands (changed p (p .standards) (p .period) true (p .current)) (after Declaration (progressOf p))
   declared a = stepped Declaration a _ refl (c .current) (c .figures)
 
   -- an engine, once it is among the tested and its results are added to the figures
   pub engine : (number readings : ℕ) (results : Pair) (e : Engines) (h o : Running)
-      → admissible (shown p) (Engine number readings results) ≡ true
+      → admissible (progressOf p) (Engine number readings results) ≡ true
       → tested e ≡ record { number = number; results = results; standards = p .standards; period = p .period } ∷ tested (p .engines)
       → ((xs : List Test) → p .hcnox ≡ running 1024 xs → h ≡ running 1024 (record { result = results .hcnox; standard = p .standards .hcnox } ∷ xs))
       → ((xs : List Test) → p .co ≡ running 1024 xs → o ≡ running 1024 (record { result = results .co; standard = p .standards .co } ∷ xs))
@@ -89,7 +88,7 @@ module _ (p : State) (c : Consistent p) where
         hcnox = h;
         co = o;
       }
-      (after (Engine number readings results) (shown p))
+      (after (Engine number readings results) (progressOf p))
   engine number readings results e h o a te eh eo =
       stepped (Engine number readings results) a _ (rw te) (rw (te, eq-eqb (p .period) (p .period) refl) (omega (arith, c .current)))
       (record { hcnox = rw te (eh _ (c .figures .hcnox)); co = rw te (eo _ (c .figures .co)) })

@@ -1,5 +1,4 @@
 -- What the state of the code says, in the words of the definitions, and what it carries beside it so that nothing is worked twice.
--- Assumes nothing.
 use mathlib.Core.Path.{_≡_}
 use Prim.Native.Nat.{ℕ}
 use Rattle.year.specs.Setup.{Hcnox, Co}
@@ -12,8 +11,8 @@ use Rattle.engines.specs.Engines.{tested}
 use Rattle.progress.specs.declared.Progress.{Progress as State}
 
 -- the progress of the year that a state stands for
-abbrev pub shown : State → Progress
-shown p =
+abbrev pub progressOf : State → Progress
+progressOf p =
     record {
       setup = p .setup;
       standards = p .standards;
@@ -31,7 +30,7 @@ pub record Figured (k : ℕ) (e : Engines) (h o : Running) : Type 0 where
 -- the year is in range, and what is carried beside it is what is worked from it: the engines of the current period, and the figures of both pollutants
 -- at resolution 1,024
 pub record Consistent (p : State) : Type 0 where
-  pub inRange : InRange (shown p)
+  pub inRange : InRange (progressOf p)
   pub current : p .current ≡ testedIn (p .period) (tested (p .engines))
   pub figures : Figured 1024 (p .engines) (p .hcnox) (p .co)
 

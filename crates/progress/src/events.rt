@@ -4,7 +4,7 @@ ghost use mathlib.Core.Bool.{true};
 ghost use Rattle.year.specs.Setup.{setupInRange};
 ghost use Rattle.year.specs.Replay.{start, after};
 ghost use Rattle.year.specs.Admissible.{admissible};
-ghost use Rattle.progress.specs.State.{shown, Consistent};
+ghost use Rattle.progress.specs.State.{progressOf, Consistent};
 use crate::Progress;
 use engines::store::no_engines;
 use engines::store::with_engine;
@@ -14,7 +14,7 @@ use year::Setup;
 
 // A setup with no events, in range or not.
 pub fn start(setup: Setup) -> Progress
-    ensures { λ r. ⌜ shown r ≡ start setup ⌝ }
+    ensures { λ r. ⌜ progressOf r ≡ start setup ⌝ }
     ensures { λ r. ⌜ (setupInRange setup ≡ true → Consistent r) ⌝ }
 {
     let standards = setup.standards;
@@ -33,8 +33,8 @@ pub fn start(setup: Setup) -> Progress
 
 // An engine: both pollutants' figures go on under the standards in force.
 fn engine(p: Progress, number: u32, readings: u32, results: Pair) -> Progress
-    requires { ⌜ Consistent p × (admissible (shown p) (Event.Engine number readings results) ≡ true) ⌝ }
-    ensures { λ r. ⌜ shown r ≡ after (Event.Engine number readings results) (shown p) ⌝ }
+    requires { ⌜ Consistent p × (admissible (progressOf p) (Event.Engine number readings results) ≡ true) ⌝ }
+    ensures { λ r. ⌜ progressOf r ≡ after (Event.Engine number readings results) (progressOf p) ⌝ }
     ensures { λ r. ⌜ Consistent r ⌝ }
 {
     let setup = p.setup;
@@ -57,8 +57,8 @@ fn engine(p: Progress, number: u32, readings: u32, results: Pair) -> Progress
 
 // One event more that could be entered. `enter_slots` of the crate scan takes the same step in place, its arms in the same order: a change of one is a change of both.
 pub fn after(p: Progress, e: Event) -> Progress
-    requires { ⌜ Consistent p × (admissible (shown p) e ≡ true) ⌝ }
-    ensures { λ r. ⌜ shown r ≡ after e (shown p) ⌝ }
+    requires { ⌜ Consistent p × (admissible (progressOf p) e ≡ true) ⌝ }
+    ensures { λ r. ⌜ progressOf r ≡ after e (progressOf p) ⌝ }
     ensures { λ r. ⌜ Consistent r ⌝ }
 {
     match e {

@@ -1,5 +1,4 @@
 -- The worked cases of the key line.
--- Assumes nothing.
 use mathlib.Core.Path.{refl}
 use Rattle.protocol.specs.Number.{isNumber, numberAt}
 use Rattle.ascii.specs.Decimal.{digits, spelt}

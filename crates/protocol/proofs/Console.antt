@@ -1,5 +1,4 @@
 -- What is printed as the input comes, with no more than 65 bytes of a line held, is the whole run.
--- Assumes nothing.
 use mathlib.Core.Path.{_≡_, refl, sym, ap, _∙_}
 use mathlib.Core.Logic.{_⊎_, inl, inr, ⊎-elim}
 use mathlib.Core.Bool.{Bool, true, false}
@@ -10,7 +9,7 @@ use lib.Dec.{eqb, leb}
 use lib.ListN.{length, take}
 use lib.Seq.{length-take-le, take-all, take-at, take-append-le}
 use borrow.Author.Tests.{lt-ltb, leb-true, leb-false}
-use Rattle.buffers.specs.Text.{byte}
+use Rattle.ascii.specs.Text.{byte}
 use Rattle.protocol.specs.KeyLine.{Refuse, commandOf}
 use Rattle.protocol.specs.Reply.{replyTo, journalAfterLine}
 use Rattle.protocol.specs.Run.{before, linesOf, replies, journalAfterLines, printed}

@@ -1,12 +1,11 @@
 -- Document 01's whole run, line by line, on the definitions. Deviations are found by their laws; the rest is computed.
--- Assumes nothing.
 use mathlib.Core.Path.{_≡_, refl, ap, _∙_}
 use mathlib.Core.Bool.{true}
 use mathlib.Core.List.{List, [], _∷_}
 use Prim.Native.Nat.{ℕ}
 use lib.Dec.{lit<, lit≤}
 use lib.ListN.{length}
-use Rattle.buffers.specs.Text.{text}
+use Rattle.ascii.specs.Text.{text}
 use Rattle.buffers.specs.Bytes.{put, zeros}
 use Rattle.rounding.specs.Result.{nearestEven}
 use Rattle.statistics.specs.Spread.{variation, deviation}

@@ -1,11 +1,10 @@
 -- Lines on a journal of zeros go the way of the reference model.
--- Assumes nothing.
 use mathlib.Core.Path.{_≡_, refl, _∙_}
 use mathlib.Core.Bool.{Bool, true, false, cond}
 use mathlib.Core.List.{List, [], _∷_}
 use Prim.Native.Nat.{ℕ}
 use lib.Dec.{eqb}
-use Rattle.buffers.proofs.Tests.{cond-same}
+use Rattle.conditions.proofs.Tests.{cond-same}
 use Rattle.year.specs.Model.{Model}
 use Rattle.journal.proofs.OneJournal.{demand}
 use Rattle.reference.specs.declared.Answer.the-variants.{Accepted, Refused}

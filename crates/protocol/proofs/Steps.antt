@@ -1,5 +1,4 @@
 -- A line on a stored journal: the reply and the journal after it, from what its call does to the year.
--- Assumes nothing.
 use mathlib.Core.Path.{_≡_, refl}
 use mathlib.Core.Bool.{false}
 use mathlib.Core.List.{List, [], _∷_}

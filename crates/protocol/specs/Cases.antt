@@ -1,9 +1,8 @@
 -- Worked cases of the key line, and document 01's whole run.
--- Assumes nothing.
 use mathlib.Core.Path.{_≡_}
 use mathlib.Core.List.{[], _∷_}
 use lib.ListN.{replicate}
-use Rattle.buffers.specs.Text.{text}
+use Rattle.ascii.specs.Text.{text}
 use Rattle.statistics.specs.declared.SampleSize.{SampleSize}
 use Rattle.statistics.specs.declared.SampleSize.the-variants.{Tenths, Absent}
 use Rattle.cumsum.specs.declared.Mark.{Mark}

@@ -1,5 +1,4 @@
 -- Document 01, "Key line": the program's output as its input comes, byte by byte, with no more than 65 bytes of a line held.
--- Assumes nothing.
 use mathlib.Core.Path.{_≡_}
 use mathlib.Core.Bool.{cond}
 use mathlib.Core.List.{List, [], _∷_, _++_}
@@ -7,7 +6,7 @@ use Prim.Native.Nat.{ℕ}
 use lib.Dec.{eqb}
 use lib.ListN.{take}
 use Rattle.buffers.specs.Bytes.{zeros}
-use Rattle.buffers.specs.Text.{byte}
+use Rattle.ascii.specs.Text.{byte}
 use Rattle.protocol.specs.Reply.{replyTo, journalAfterLine}
 use Rattle.protocol.specs.Run.{linesOf, journalAfterLines, run}
 

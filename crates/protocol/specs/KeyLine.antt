@@ -1,12 +1,11 @@
 -- Document 01, "Key line": a letter, then numbers, each after one space; and the call that these make.
--- Assumes nothing.
 use mathlib.Core.Bool.{cond}
 use mathlib.Core.List.{List, [], _∷_}
 use mathlib.Core.Option.{Option, some, none}
 use Prim.Native.Nat.{ℕ, zero, suc, _+_, _/_, _%_}
 use lib.Dec.{ltb, eqb}
 use lib.ListN.{length, getD, take, drop}
-use Rattle.buffers.specs.Text.{byte}
+use Rattle.ascii.specs.Text.{byte}
 use Rattle.year.specs.declared.Setup.{Setup}
 use Rattle.reference.specs.Call.{Entry, EnterEngine, EnterChange, Marks, Write, Call, SetUp, Enter, Ask}
 use Rattle.reference.specs.declared.Change.{Change}

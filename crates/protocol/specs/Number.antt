@@ -1,12 +1,11 @@
 -- Document 01, "Key line": a number at a position of a line.
--- Assumes nothing.
 use mathlib.Core.Bool.{Bool, cond, not, _&&_, _||_}
 use mathlib.Core.List.{List}
 use Prim.Native.Nat.{ℕ, _+_}
 use lib.Dec.{eqb}
 use lib.ListN.{getD, take, drop}
-use Rattle.buffers.specs.Numbers.{within}
-use Rattle.buffers.specs.Text.{byte}
+use Rattle.conditions.specs.Ranges.{within}
+use Rattle.ascii.specs.Text.{byte}
 use Rattle.ascii.specs.Decimal.{digits, spelt}
 use Rattle.protocol.specs.declared.Number.{Number}
 use Rattle.protocol.specs.declared.Number.the-variants.{Value, Nothing}

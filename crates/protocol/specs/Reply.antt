@@ -1,8 +1,7 @@
 -- Document 01, "Key line": the reply to a line, and the journal after it.
--- Assumes nothing.
 use mathlib.Core.List.{List, [], _∷_, _++_}
 use Prim.Native.Nat.{ℕ}
-use Rattle.buffers.specs.Text.{byte, text}
+use Rattle.ascii.specs.Text.{byte, text}
 use Rattle.ascii.specs.Decimal.{decimal}
 use Rattle.statistics.specs.declared.SampleSize.{SampleSize}
 use Rattle.statistics.specs.declared.SampleSize.the-variants.{Tenths, Absent}

@@ -1,11 +1,10 @@
 -- Document 01, "Key line": "The calculator program reads standard input and starts from a zeroed book." What it writes for an input.
--- Assumes nothing.
 use mathlib.Core.Bool.{cond}
 use mathlib.Core.List.{List, [], _∷_, _++_}
 use Prim.Native.Nat.{ℕ}
 use lib.Dec.{eqb}
 use Rattle.buffers.specs.Bytes.{zeros}
-use Rattle.buffers.specs.Text.{byte}
+use Rattle.ascii.specs.Text.{byte}
 use Rattle.protocol.specs.Reply.{replyTo, journalAfterLine}
 
 -- a byte in front of the first line

@@ -1,5 +1,4 @@
 -- Lines on a journal that is all zero at the start, beside the reference model (document 01, "The plain year of a list of calls") fed by the lines' calls.
--- Assumes nothing.
 use mathlib.Core.Path.{_≡_}
 use mathlib.Core.Bool.{cond}
 use mathlib.Core.List.{List, [], _∷_}

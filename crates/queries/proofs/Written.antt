@@ -10,29 +10,29 @@ use Rattle.year.specs.declared.Status.{Status}
 use Rattle.year.specs.Setup.{judged}
 use Rattle.year.specs.Status.{status, printedMarks}
 use Rattle.year.specs.Model.{noSetup}
-use Rattle.progress.specs.State.{shown, Consistent}
+use Rattle.progress.specs.State.{progressOf, Consistent}
 use Rattle.progress.proofs.Carried.{count-le, counted}
 use Rattle.engines.specs.Engines.{tested, EnginesInRange}
 use Rattle.journal.specs.Read.{readJournal}
-use Rattle.scan.specs.declared.Scanned.{Scanned}
-use Rattle.scan.specs.Scan.{Tells}
+use Rattle.slots.specs.declared.Scanned.{Scanned}
+use Rattle.slots.specs.Scanned.{ScannedAs}
 use Rattle.reference.specs.declared.Answer.the-variants.{Accepted}
 use Rattle.reference.specs.Call.{Marks, ReadStatus, Write, Ask}
 use Rattle.reference.specs.Answers.{refusalOn, statusOf, formBytes, outBytes, outAfter, outPart, outputAnswer}
 use Rattle.reference.proofs.Given.{accepted-gives, accepted-answer, accepted-year}
 use Rattle.reference.proofs.Demand1.{demand-1, out-fits, mark-bytes}
 use Rattle.reference.proofs.Promises.{Promised, promised}
-use Rattle.refusals.proofs.ScannedYear.{told-consistent, told-is}
+use Rattle.refusals.proofs.ScannedYear.{scanned-consistent, scanned-is}
 
 -- an accepted status, and accepted marks, on the year that a scan has told
-module _ (journal : List ℕ) (scanned : Scanned) (t : Tells scanned (readJournal journal)) where
+module _ (journal : List ℕ) (scanned : Scanned) (t : ScannedAs scanned (readJournal journal)) where
   module _ (h : refusalOn (Ask ReadStatus) journal ≡ 0) where
     pub status-ready : Consistent (scanned .progress)
-    status-ready = told-consistent scanned (readJournal journal) t (accepted-year (Ask ReadStatus) journal h refl)
+    status-ready = scanned-consistent scanned (readJournal journal) t (accepted-year (Ask ReadStatus) journal h refl)
 
-    pub status-done : (x : Status) → x ≡ status 1024 (shown (scanned .progress)) → Promised (Ask ReadStatus) journal (Accepted x) journal
+    pub status-done : (x : Status) → x ≡ status 1024 (progressOf (scanned .progress)) → Promised (Ask ReadStatus) journal (Accepted x) journal
     status-done x a =
-        let year = told-is scanned (readJournal journal) t (accepted-year (Ask ReadStatus) journal h refl) statusOf (status 1024) (λ s es. refl) in
+        let year = scanned-is scanned (readJournal journal) t (accepted-year (Ask ReadStatus) journal h refl) statusOf (status 1024) (λ s es. refl) in
         promised (Ask ReadStatus) journal (Accepted x) journal
         (rw (a, ← year, accepted-answer (Ask ReadStatus) journal h, demand-1 .queryKept ReadStatus journal)) (sym (demand-1 .queryKept ReadStatus journal))
 
@@ -48,14 +48,14 @@ module _ (journal : List ℕ) (scanned : Scanned) (t : Tells scanned (readJourna
       held = accepted-year (Ask (Write Marks (length out))) journal h refl
 
       consistent : Consistent (scanned .progress)
-      consistent = told-consistent scanned (readJournal journal) t held
+      consistent = scanned-consistent scanned (readJournal journal) t held
 
       bytes : outBytes Marks (readJournal journal) ≡ map markByte (printedMarks judged 1024 (tested (scanned .progress .engines)))
-      bytes = told-is scanned (readJournal journal) t held (outBytes Marks) (formBytes Marks) (λ s es. refl)
+      bytes = scanned-is scanned (readJournal journal) t held (outBytes Marks) (formBytes Marks) (λ s es. refl)
 
       engines : statusOf (readJournal journal) .n ≡ scanned .progress .engines .count
       engines =
-          told-is scanned (readJournal journal) t held (λ m. statusOf m .n) (λ p. length (p .tested)) (λ s es. refl) ∙ counted (scanned .progress) consistent
+          scanned-is scanned (readJournal journal) t held (λ m. statusOf m .n) (λ p. length (p .tested)) (λ s es. refl) ∙ counted (scanned .progress) consistent
 
       pub marks-few : scanned .progress .engines .count ≤ 40
       marks-few = count-le (scanned .progress) consistent

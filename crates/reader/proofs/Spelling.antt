@@ -1,5 +1,4 @@
 -- The digits at a position of a line, one at a time, and the number that they spell.
--- Assumes nothing.
 use mathlib.Core.Path.{_≡_, refl}
 use mathlib.Core.Bool.{Bool, true, false, not, _||_, and-eq-true-iff}
 use mathlib.Core.List.{List}
@@ -12,7 +11,7 @@ use lib.Dec.{lit<, leb, eqb}
 use lib.ListN.{length, take, drop, getD, drop-of-length-le}
 use lib.Seq.{drop-cons}
 use borrow.Author.Tests.{leb-true}
-use Rattle.buffers.specs.Numbers.{within}
+use Rattle.conditions.specs.Ranges.{within}
 use Rattle.protocol.specs.Number.{isNumber}
 use Rattle.ascii.specs.Decimal.{isDigit, digits, spelt}
 

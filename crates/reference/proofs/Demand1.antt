@@ -1,5 +1,4 @@
 -- Demand 1, proved.
--- Assumes nothing.
 use mathlib.Core.Path.{_≡_, refl, sym, ap, _∙_}
 use mathlib.Core.Logic.{_↔_, _≢_, inl, inr, ⊎-elim}
 use mathlib.Core.Bool.{false}
@@ -12,10 +11,10 @@ use lib.Dec.{eqb}
 use lib.ListN.{length, getD, length-map}
 use borrow.Author.Tests.{eqb-true, ltb-false}
 use Rattle.buffers.specs.Bytes.{put, Outside}
-use Rattle.buffers.specs.Rows.{applies, FirstApplies, NoneApplies}
+use Rattle.conditions.specs.Rows.{applies, FirstApplies, NoneApplies}
 use Rattle.buffers.proofs.Lists.{length-put, put-other}
-use Rattle.buffers.proofs.Rows.{first-is, first-applies, first-none, none-is}
-use Rattle.buffers.proofs.Tests.{by-test, cond-same}
+use Rattle.conditions.proofs.Rows.{first-is, first-applies, first-none, none-is}
+use Rattle.conditions.proofs.Tests.{by-test, cond-same}
 use Rattle.cumsum.specs.Marks.{markByte}
 use Rattle.year.specs.declared.Setup.{Setup}
 use Rattle.year.specs.declared.Event.{Event}

@@ -1,5 +1,4 @@
 -- Demand 3, proved.
--- Assumes nothing.
 use mathlib.Core.Path.{_≡_, refl, sym, ap, _∙_}
 use mathlib.Core.Bool.{false, cond}
 use mathlib.Core.List.{List, [], reverse}

@@ -1,12 +1,11 @@
 -- The events of an accepted journal could have been entered: an entry whose event is admissible, its readings in range, is accepted.
--- Assumes nothing.
 use mathlib.Core.Path.{_≡_}
 use mathlib.Core.Bool.{true, false, not, _&&_, _||_, and-eq-true-iff}
 use mathlib.Core.List.{List}
 use Prim.Native.Nat.{ℕ}
 use lib.ListN.{length}
 use borrow.Author.Tests.{not-true}
-use Rattle.buffers.proofs.Tests.{or-false}
+use Rattle.conditions.proofs.Tests.{or-false}
 use Rattle.rounding.specs.Result.{countInRange}
 use Rattle.year.specs.declared.Setup.{Setup}
 use Rattle.year.specs.declared.Event.{Event}

@@ -1,5 +1,4 @@
 -- What the definitions give where a call is accepted and where it is refused, and which calls are accepted.
--- Assumes nothing.
 use mathlib.Core.Path.{_≡_, refl, ap, _∙_}
 use mathlib.Core.Logic.{_≢_}
 use mathlib.Core.Bool.{Bool, true, false, cond, true≢false}
@@ -8,8 +7,8 @@ use Prim.Native.Nat.{ℕ, _*_, _≤_, _<_}
 use lib.Dec.{eqb}
 use lib.ListN.{length, getD}
 use borrow.Author.Tests.{eq-eqb, ne-eqb, eqb-true, le-ltb}
-use Rattle.buffers.specs.Rows.{applies}
-use Rattle.buffers.proofs.Tests.{not-false}
+use Rattle.conditions.specs.Rows.{applies}
+use Rattle.conditions.proofs.Tests.{not-false}
 use Rattle.year.specs.declared.Setup.{Setup}
 use Rattle.year.specs.declared.Event.{Event}
 use Rattle.year.specs.declared.Status.{Status}

@@ -1,5 +1,4 @@
 -- Each call on the bytes of a journal is a step of the reference model: what the journal is read as after the call is the model's state after it.
--- Assumes nothing.
 use mathlib.Core.Path.{_≡_, refl, ap, _∙_}
 use mathlib.Core.Bool.{Bool, true, false, cond}
 use mathlib.Core.List.{List, [], _∷_}

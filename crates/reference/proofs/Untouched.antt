@@ -1,12 +1,11 @@
 -- As long as no setup was accepted, no byte of the journal has changed.
--- Assumes nothing.
 use mathlib.Core.Path.{_≡_, refl, sym, ap, _∙_}
 use mathlib.Core.Bool.{Bool, true, false, cond, false≢true}
 use mathlib.Core.List.{List, [], _∷_}
 use Prim.Native.Nat.{ℕ}
 use lib.Dec.{eqb}
 use Rattle.buffers.specs.Bytes.{zeros}
-use Rattle.buffers.proofs.Tests.{cond-same}
+use Rattle.conditions.proofs.Tests.{cond-same}
 use Rattle.year.specs.Model.{Model, NoSetup, Year, noSetup}
 use Rattle.journal.specs.Encode.{encode}
 use Rattle.reference.specs.Call.{Call, SetUp, Enter, Ask}

@@ -1,5 +1,4 @@
 -- The event of an accepted entry is admissible, and so every list of calls leaves the reference model with a year that could have been entered.
--- Assumes nothing.
 use mathlib.Core.Path.{_≡_, refl}
 use mathlib.Core.Bool.{true, false, not, and-eq-true-iff}
 use mathlib.Core.List.{List, [], _∷_}
@@ -8,9 +7,9 @@ use native.Mathlib.Omega.{arith}
 use lib.Dec.{eqb}
 use lib.ListN.{length}
 use borrow.Author.Tests.{eqb-true}
-use Rattle.buffers.specs.Rows.{applies, Numbered}
-use Rattle.buffers.proofs.Rows.{first-none, none-applies}
-use Rattle.buffers.proofs.Tests.{by-test, and-true, or-false, false-not, not-false}
+use Rattle.conditions.specs.Rows.{applies, Numbered}
+use Rattle.conditions.proofs.Rows.{first-none, none-applies}
+use Rattle.conditions.proofs.Tests.{by-test, and-true, or-false, false-not, not-false}
 use Rattle.rounding.specs.Result.{countInRange}
 use Rattle.year.specs.declared.Setup.{Setup}
 use Rattle.year.specs.declared.Event.{Event}

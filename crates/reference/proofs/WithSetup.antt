@@ -1,10 +1,9 @@
 -- A list of calls leaves the reference model with a setup exactly if there is an accepted setup in it.
--- Assumes nothing.
 use mathlib.Core.Path.{_≡_, refl, ap, _∙_}
 use mathlib.Core.Bool.{true, false, _&&_, false≢true}
 use mathlib.Core.List.{List, [], _∷_}
 use lib.Dec.{eqb}
-use Rattle.buffers.proofs.Tests.{by-test, cond-same, or-false, either-true}
+use Rattle.conditions.proofs.Tests.{by-test, cond-same, or-false, either-true}
 use Rattle.year.specs.Model.{Model, NoSetup, Year, noSetup}
 use Rattle.reference.specs.Call.{Call, SetUp, Enter, Ask, isSetup}
 use Rattle.reference.specs.Refusals.{refusal}

@@ -1,12 +1,11 @@
 -- What each call gives back, and every byte that it leaves in the lent buffers (document 01, "The book" and "Refused calls, in checking order").
--- Assumes nothing.
 use mathlib.Core.Bool.{cond}
 use mathlib.Core.List.{List, [], map}
 use Prim.Native.Nat.{ℕ}
 use lib.Dec.{eqb}
 use lib.ListN.{length}
 use Rattle.buffers.specs.Bytes.{put}
-use Rattle.buffers.specs.Rows.{Row}
+use Rattle.conditions.specs.Rows.{Row}
 use Rattle.cumsum.specs.Marks.{markByte}
 use Rattle.year.specs.declared.Status.{Status}
 use Rattle.year.specs.Replay.{Progress, replay}

@@ -1,7 +1,6 @@
 -- Worked cases of the calls: each refusal but 14 (`year`'s cases have forty engines), some together with the next in order, and what accepted and refused
 -- calls leave.
 -- Lists of events and of calls have the newest first.
--- Assumes nothing.
 use mathlib.Core.Path.{_≡_}
 use mathlib.Core.Bool.{true, false}
 use mathlib.Core.List.{List, [], _∷_}

@@ -1,13 +1,12 @@
 -- Demand 1: what a call leaves in the lent buffers, and by which number it is refused, for every call and every length and content of the buffers.
 -- ("Each call ends" is the checker's verdict on the code.)
--- Assumes nothing.
 use mathlib.Core.Path.{_≡_}
 use mathlib.Core.Logic.{_↔_, _≢_}
 use mathlib.Core.List.{List, [], _∷_, map}
 use Prim.Native.Nat.{ℕ, _*_, _≤_, _<_}
 use lib.ListN.{length, getD}
 use Rattle.buffers.specs.Bytes.{Outside}
-use Rattle.buffers.specs.Rows.{Row, FirstApplies, NoneApplies}
+use Rattle.conditions.specs.Rows.{Row, FirstApplies, NoneApplies}
 use Rattle.year.specs.declared.Setup.{Setup}
 use Rattle.year.specs.declared.Event.{Event}
 use Rattle.year.specs.Replay.{replay}

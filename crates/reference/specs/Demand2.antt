@@ -1,6 +1,5 @@
 -- Demand 2: "Rounding, sample size, CumSum, action limit, marks and verdict equal the definitions", in what the calls store, answer and write; and one journal
 -- for each setup and list.
--- Assumes nothing.
 use mathlib.Core.Path.{_≡_}
 use mathlib.Core.Bool.{Bool, true, false, not, _||_}
 use mathlib.Core.List.{List, [], _∷_, map}

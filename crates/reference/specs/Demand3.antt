@@ -1,5 +1,4 @@
 -- Demand 3: finer work beside what the calls give, after every list of calls on one journal that is all zero at the start, and on every accepted journal.
--- Assumes nothing.
 use mathlib.Core.Path.{_≡_}
 use mathlib.Core.Bool.{true, false}
 use mathlib.Core.List.{List, map, reverse}

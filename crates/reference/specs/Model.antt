@@ -1,5 +1,4 @@
 -- Document 01, "The plain year of a list of calls": the reference model ("plain year"), fed the arguments of calls alone.
--- Assumes nothing.
 use mathlib.Core.Bool.{Bool, false, cond, _&&_, _||_}
 use mathlib.Core.List.{List, [], _∷_}
 use Prim.Native.Nat.{ℕ}

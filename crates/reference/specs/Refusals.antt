@@ -1,12 +1,11 @@
 -- Document 01, "Refused calls, in checking order", 3 to 16, for every call. (1 and 2 are the key line's.) One table: what a call asks, the length of the
 -- journal's buffer, and the year that it holds.
--- Assumes nothing.
 use mathlib.Core.Bool.{Bool, true, not, _&&_, _||_}
 use mathlib.Core.List.{List, [], _∷_}
 use Prim.Native.Nat.{ℕ, _*_}
 use lib.Dec.{eqb, ltb}
 use lib.ListN.{length}
-use Rattle.buffers.specs.Rows.{Row, first}
+use Rattle.conditions.specs.Rows.{Row, first}
 use Rattle.rounding.specs.Result.{countInRange, readingInRange}
 use Rattle.year.specs.Setup.{both, standardsInRange, productionInRange, factorsInRange}
 use Rattle.year.specs.Replay.{short, isTested}

@@ -1,5 +1,4 @@
 -- Document 01, "The plain year of a list of calls", on the bytes of a journal: the journal and the reference model go the same way, call by call.
--- Assumes nothing.
 use mathlib.Core.Path.{_≡_}
 use mathlib.Core.List.{List}
 use Prim.Native.Nat.{ℕ}

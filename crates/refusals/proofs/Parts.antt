@@ -6,19 +6,19 @@ use Prim.Native.Nat.{ℕ, _*_}
 use native.Mathlib.Omega.{arith}
 use lib.Dec.{ltb}
 use lib.ListN.{length}
-use Rattle.buffers.specs.Rows.{Row, first, from, Numbered}
-use Rattle.buffers.proofs.Rows.{first-none, none-applies, first-kept, first-passed}
+use Rattle.conditions.specs.Rows.{Row, first, from, Numbered}
+use Rattle.conditions.proofs.Rows.{first-none, none-applies, first-kept, first-passed}
 use Rattle.year.specs.Setup.{standardsInRange}
 use Rattle.year.specs.Model.{noSetup}
-use Rattle.progress.specs.State.{shown}
+use Rattle.progress.specs.State.{progressOf}
 use Rattle.journal.specs.Read.{readJournal}
 use Rattle.reference.specs.Call.{Entry, Marks, Write, Enter, Ask, ofChange, ofAmendment}
 use Rattle.reference.specs.Refusals.{refusals, refusal}
 use Rattle.reference.specs.Answers.{refusalsOn, refusalOn}
-use Rattle.scan.specs.declared.Scanned.{Scanned}
-use Rattle.scan.specs.Scan.{Tells}
+use Rattle.slots.specs.declared.Scanned.{Scanned}
+use Rattle.slots.specs.Scanned.{ScannedAs}
 use Rattle.refusals.specs.Parts.{statusRows, entryRows}
-use Rattle.refusals.proofs.ScannedYear.{told-test}
+use Rattle.refusals.proofs.ScannedYear.{scanned-test}
 
 -- ---- status, and the marks call: the rows of status and then 16
 
@@ -37,11 +37,11 @@ module _ (size : ℕ) (journal : List ℕ) where
   unfolding refusal refusals
   marks-refused h = sym (first-kept (statusRows journal) (first (from 16 table) 0) h)
 
-  pub marks-decided : (scanned : Scanned) → Tells scanned (readJournal journal) → first (statusRows journal) 0 ≡ 0
-      → cond (ltb size (2 * length (shown (scanned .progress) .tested))) 16 0 ≡ refusalOn (Ask (Write Marks size)) journal
+  pub marks-decided : (scanned : Scanned) → ScannedAs scanned (readJournal journal) → first (statusRows journal) 0 ≡ 0
+      → cond (ltb size (2 * length (progressOf (scanned .progress) .tested))) 16 0 ≡ refusalOn (Ask (Write Marks size)) journal
   unfolding refusal refusals
   marks-decided scanned t none =
-      let year = told-test scanned (readJournal journal) t (status-held journal none) in
+      let year = scanned-test scanned (readJournal journal) t (status-held journal none) in
       rw (← year (λ x. ltb size (2 * length (x .tested))))
       (sym (first-passed (statusRows journal) (first (from 16 table) 0) (status-numbered journal) none))
 

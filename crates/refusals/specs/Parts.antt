@@ -4,7 +4,7 @@ use mathlib.Core.List.{List, [], _∷_}
 use Prim.Native.Nat.{ℕ}
 use lib.Dec.{eqb}
 use lib.ListN.{length}
-use Rattle.buffers.specs.Rows.{Row}
+use Rattle.conditions.specs.Rows.{Row}
 use Rattle.year.specs.Admissible.{closed, eventsFull}
 use Rattle.year.specs.Model.{noSetup, ofYear}
 use Rattle.journal.specs.Read.{readJournal}

@@ -1,29 +1,19 @@
 // Which calls are refused, by which number: the tests of the one table of refusals (`refusals` of the crate reference), in its order. Nothing is written.
 ghost use mathlib.Core.Path.{_≡_};
-ghost use mathlib.Core.Bool.{cond};
-ghost use Rattle.buffers.specs.Rows.{first};
+ghost use Rattle.conditions.specs.Rows.{first};
 ghost use Rattle.journal.specs.Read.{readJournal};
 ghost use Rattle.reference.specs.Call.{Marks, ReadStatus, Write, SetUp, Ask};
 ghost use Rattle.reference.specs.Answers.{refusalOn};
-ghost use Rattle.scan.specs.Scan.{Tells};
+ghost use Rattle.slots.specs.Scanned.{ScannedAs};
 ghost use Rattle.refusals.specs.Parts.{entryRows};
+use conditions::row;
 use journal::JOURNAL_SIZE;
-use scan::Scanned;
 use schedule::factors_in_range;
 use schedule::production_in_range;
 use schedule::standards_in_range;
+use slots::Scanned;
 use verdicts::verdict::closed;
 use year::Setup;
-
-// The number of a row that applies, otherwise what the later rows say.
-pub fn row(applies: bool, number: u8, later: u8) -> u8
-    ensures { λ r. ⌜ r ≡ cond applies number later ⌝ }
-{
-    if applies {
-        return number;
-    }
-    later
-}
 
 // 3, 4, 5 and 6. Setup asks nothing of what the buffer holds.
 pub fn setup_refusal(journal: &[u8], s: Setup) -> u8
@@ -38,7 +28,7 @@ pub fn setup_refusal(journal: &[u8], s: Setup) -> u8
 
 // 3 and 7.
 pub fn status_refusal(journal: &[u8], scanned: Scanned) -> u8
-    requires { ⌜ Tells scanned (readJournal (now journal)) ⌝ }
+    requires { ⌜ ScannedAs scanned (readJournal (now journal)) ⌝ }
     ensures { λ r. ⌜ r ≡ refusalOn (Ask ReadStatus) (now (journal .entry)) ⌝ }
 {
     row(
@@ -50,7 +40,7 @@ pub fn status_refusal(journal: &[u8], scanned: Scanned) -> u8
 
 // 3, 7 and 16, for an output of this size.
 pub fn marks_refusal(journal: &[u8], scanned: Scanned, size: usize) -> u8
-    requires { ⌜ Tells scanned (readJournal (now journal)) ⌝ }
+    requires { ⌜ ScannedAs scanned (readJournal (now journal)) ⌝ }
     ensures { λ r. ⌜ r ≡ refusalOn (Ask (Write Marks size)) (now (journal .entry)) ⌝ }
 {
     let unread = status_refusal(journal, scanned);
@@ -63,7 +53,7 @@ pub fn marks_refusal(journal: &[u8], scanned: Scanned, size: usize) -> u8
 
 // 3, 7, 8 and 9, which every entry may meet, and in its place 5, where an amendment's standards are unfit.
 pub fn entry_refusal(journal: &[u8], unfit: bool, scanned: Scanned) -> u8
-    requires { ⌜ Tells scanned (readJournal (now journal)) ⌝ }
+    requires { ⌜ ScannedAs scanned (readJournal (now journal)) ⌝ }
     ensures { λ r. ⌜ r ≡ first (entryRows unfit (now (journal .entry))) 0 ⌝ }
 {
     if journal.len() != JOURNAL_SIZE {

@@ -1,12 +1,11 @@
 -- Text at the front of an output as a reply, and the marks as one.
--- Assumes nothing.
 use mathlib.Core.Path.{_≡_, refl}
 use mathlib.Core.List.{List, [], _∷_}
 use Prim.Native.Nat.{ℕ, zero, suc, _+_, _≤_, _<_}
 use native.Mathlib.Omega.{arith}
 use lib.ListN.{length}
 use Rattle.buffers.specs.Bytes.{put}
-use Rattle.buffers.specs.Text.{text}
+use Rattle.ascii.specs.Text.{text}
 use Rattle.buffers.proofs.Lists.{put-none, put-front}
 use Rattle.protocol.specs.Reply.{marksReply}
 use Rattle.text.specs.Written.{Written}

@@ -1,11 +1,10 @@
 -- A reply at the front of a lent output: every byte of the output, and the number of the reply's bytes.
--- Assumes nothing.
 use mathlib.Core.Path.{_≡_}
 use mathlib.Core.List.{List}
 use Prim.Native.Nat.{ℕ, zero, suc, _<_}
 use lib.ListN.{length}
 use Rattle.buffers.specs.Bytes.{put}
-use Rattle.buffers.specs.Text.{text}
+use Rattle.ascii.specs.Text.{text}
 
 -- a reply at the front of an output, with the number of its bytes. Every reply is shorter than the output's 96 bytes
 pub record Replied (before reply after : List ℕ) (count : ℕ) : Type 0 where

@@ -1,5 +1,4 @@
 -- The worked cases of rounding: each is computed.
--- Assumes nothing.
 use mathlib.Core.Path.{refl}
 use Rattle.rounding.specs.Result.{nearestEven}
 use Rattle.rounding.specs.Cases.{Cases}

@@ -1,5 +1,4 @@
 -- Laws of nearestEven: its three cases, that it is the nearest with ties to even, and that nothing else is.
--- Assumes nothing.
 use mathlib.Core.Path.{_≡_, refl, sym, ap}
 use mathlib.Core.Logic.{_⊎_, inl, inr, ⊎-elim}
 use Prim.Native.Nat.{ℕ, zero, suc, _+_, _*_, _/_, _%_, _≤_, _<_}
@@ -7,7 +6,7 @@ use native.Mathlib.Nat.{le-of-eq, div-add-mod, mod-lt, mul-le-mul-left, eq-of-mu
 use native.Mathlib.Omega.{arith}
 use native.Mathlib.Decide.{decLt}
 use borrow.Author.Tests.{lt-ltb, le-ltb}
-use Rattle.buffers.specs.Numbers.{distance}
+use Rattle.conditions.specs.Ranges.{distance}
 use Rattle.rounding.specs.Result.{nearestEven}
 use Rattle.rounding.specs.Nearest.{Nearest}
 

@@ -1,5 +1,4 @@
 -- What a rounded quotient and a sum of rounded readings need of room, and the sum as a loop takes it from the front.
--- Assumes nothing.
 use mathlib.Core.Path.{_≡_, ap}
 use mathlib.Core.List.{List, map}
 use Prim.Native.Nat.{ℕ, _+_, _*_, _/_, _%_, _≤_, _<_}
@@ -9,7 +8,7 @@ use native.Mathlib.Omega.{arith}
 use lib.Dec.{ltb, lit<}
 use lib.ListN.{length, getD, drop, drop-of-length-le}
 use lib.Seq.{drop-cons}
-use Rattle.buffers.proofs.Tests.{by-test}
+use Rattle.conditions.proofs.Tests.{by-test}
 use Rattle.rounding.specs.Result.{nearestEven, sum}
 
 -- a rounded quotient is at most one more than the quotient

@@ -1,6 +1,5 @@
 -- Worked cases of rounding. The first four are document 01's, "Cases on the edges", starred; the last two tell rounding at each step from
 -- rounding once at the end, and an added factor from a multiplied one.
--- Assumes nothing.
 use mathlib.Core.Path.{_≡_}
 use mathlib.Core.List.{[], _∷_}
 use Prim.Native.Nat.{ℕ}

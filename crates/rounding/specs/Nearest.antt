@@ -1,9 +1,8 @@
 -- What the definition `nearestEven` owes (ASTM E29): "to the nearest, halves to the even neighbour", and that it is the only such number.
--- Assumes nothing.
 use mathlib.Core.Path.{_≡_}
 use mathlib.Core.Logic.{_≢_}
 use Prim.Native.Nat.{ℕ, _*_, _%_, _≤_}
-use Rattle.buffers.specs.Numbers.{distance}
+use Rattle.conditions.specs.Ranges.{distance}
 
 -- q is the whole number nearest to a / b, the even one where another is as near: b × p lies as far from a as p from a / b, taken b times
 pub record Nearest (a b q : ℕ) : Type 0 where

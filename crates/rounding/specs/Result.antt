@@ -1,11 +1,10 @@
 -- Document 01, "From reading to result": readings in thousandths of a result unit, and the result X in result units.
--- Assumes nothing.
 use mathlib.Core.Bool.{Bool, cond, _&&_, _||_}
 use mathlib.Core.List.{List, [], _∷_, map}
 use Prim.Native.Nat.{ℕ, _+_, _*_, _/_, _%_}
 use lib.Dec.{leb, ltb, eqb}
 use lib.ListN.{length}
-use Rattle.buffers.specs.Numbers.{within}
+use Rattle.conditions.specs.Ranges.{within}
 use Rattle.rounding.specs.declared.Factor.{Factor}
 
 -- a / b "to the nearest, halves to the even neighbour": down where the remainder is under half of b, up where it is over,

@@ -4,7 +4,7 @@ ghost use mathlib.Core.List.{map};
 ghost use Prim.Native.Nat.{_^_, _≤_, _<_};
 ghost use lib.ListN.{length};
 ghost use Rattle.rounding.specs.Result.{nearestEven, rounded, sum, factored, resultOf, countInRange, readingInRange, factorInRange, resultInRange};
-use buffers::within;
+use conditions::within;
 
 // A deterioration factor of one pollutant. Kind 0 adds `value` thousandths of a result unit, kind 1 multiplies by `value` thousandths.
 // Both are as they were given: whether they are in range is asked by `factor_in_range`.

@@ -1,5 +1,4 @@
 -- The tests of a whole buffer, as the code makes them: size, number of events, header and unused slots, and then the events.
--- Assumes nothing.
 use mathlib.Core.Path.{_≡_, refl, sym, subst, _∙_}
 use mathlib.Core.Bool.{Bool, true, false, not, _&&_, true≢false, and-eq-true-iff}
 use mathlib.Core.List.{List}
@@ -8,27 +7,17 @@ use native.Mathlib.Omega.{arith}
 use lib.ListN.{length, getD, take, drop}
 use Rattle.buffers.specs.Bytes.{isZero}
 use Rattle.buffers.proofs.Lists.{part-from}
-use Rattle.buffers.proofs.Tests.{and-true}
+use Rattle.conditions.proofs.Tests.{and-true}
 use Rattle.year.specs.Setup.{setupInRange}
 use Rattle.year.specs.Model.{Model, NoSetup, noSetup}
 use Rattle.journal.specs.Encode.{slotPlace}
 use Rattle.journal.specs.Read.{setupIn, readJournal}
 use Rattle.journal.specs.Acceptance.{isHeader, entersUpTo}
 use Rattle.journal.proofs.Exactly.{acceptable-read, not-acceptable}
-use Rattle.progress.specs.State.{shown, Consistent}
-use Rattle.scan.specs.declared.Scanned.{Scanned}
-use Rattle.scan.specs.Scan.{progressOf, Tells, entered}
-use Rattle.scan.proofs.Entering.{none-entered, all-entered}
-
--- what is told of a model, as the contract says it of the model that the buffer is read as
-pub as-promised : (r : Scanned) {m n : Model} → m ≡ n → Tells r m
-    → (r .accepted ≡ not (noSetup n)) × ((shown (r .progress) ≡ progressOf n) × (r .accepted ≡ true → Consistent (r .progress)))
-as-promised r e t = let u = subst (Tells r) e t in (u .accepted, (u .year, u .consistent))
-
--- and back, for a caller
-pub tells : (r : Scanned) (m : Model)
-    → (r .accepted ≡ not (noSetup m)) × ((shown (r .progress) ≡ progressOf m) × (r .accepted ≡ true → Consistent (r .progress))) → Tells r m
-tells r m p = record { accepted = p .0; year = p .1 .0; consistent = p .1 .1 }
+use Rattle.progress.specs.State.{progressOf, Consistent}
+use Rattle.slots.specs.declared.Scanned.{Scanned}
+use Rattle.slots.specs.Scanned.{replayed, ScannedAs, entered}
+use Rattle.slots.proofs.Entering.{none-entered, all-entered}
 
 module _ (journal : List ℕ) where
   abbrev count : ℕ

@@ -1,5 +1,4 @@
 -- What is kept of a piece of the input (protocol, specs/Console).
--- Assumes nothing.
 use mathlib.Core.Path.{_≡_}
 use mathlib.Core.List.{List}
 use Prim.Native.Nat.{ℕ}

@@ -1,5 +1,4 @@
 -- The fewest digits that hold a number are its decimal digits.
--- Assumes nothing.
 use mathlib.Core.Path.{_≡_}
 use mathlib.Core.List.{List, [], _∷_, _++_}
 use Prim.Native.Nat.{ℕ, zero, suc, _+_, _-_, _/_, _%_, _^_, _≤_, _<_}
@@ -7,8 +6,8 @@ use native.Mathlib.Nat.{pow-suc, mod-eq-of-lt, div-lt-iff-lt-mul, le-div-iff-mul
 use native.Mathlib.Omega.{arith}
 use borrow.Author.Tests.{lt-ltb, ltb-true, ltb-false}
 use lib.Dec.{lit<, ltb}
-use Rattle.buffers.specs.Text.{byte}
-use Rattle.buffers.proofs.Tests.{by-test}
+use Rattle.ascii.specs.Text.{byte}
+use Rattle.conditions.proofs.Tests.{by-test}
 use Rattle.io.specs.Digits.{digits, Fewest, glyph}
 use Rattle.ascii.specs.Decimal.{decimalUpTo, decimal}
 

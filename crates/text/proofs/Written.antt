@@ -1,5 +1,4 @@
 -- Text put after text.
--- Assumes nothing.
 use mathlib.Core.Path.{_∙_}
 use mathlib.Core.List.{List, _++_}
 use Prim.Native.Nat.{ℕ, _≤_}

@@ -1,5 +1,4 @@
 -- Text put into a lent output: every byte of the output, and the position after the text.
--- Assumes nothing.
 use mathlib.Core.Path.{_≡_}
 use mathlib.Core.List.{List}
 use Prim.Native.Nat.{ℕ, _+_}

@@ -1,7 +1,7 @@
 // The status.
 ghost use mathlib.Core.Path.{_≡_};
 ghost use Rattle.year.specs.Status.{status};
-ghost use Rattle.progress.specs.State.{shown, Consistent};
+ghost use Rattle.progress.specs.State.{progressOf, Consistent};
 use crate::verdict::verdict;
 use engines::summary::figures_of;
 use progress::Progress;
@@ -10,7 +10,7 @@ use year::Status;
 // The calculator's status, at resolution 1,024.
 pub fn status_of(p: Progress) -> Status
     requires { ⌜ Consistent p ⌝ }
-    ensures { λ r. ⌜ r ≡ status 1024 (shown p) ⌝ }
+    ensures { λ r. ⌜ r ≡ status 1024 (progressOf p) ⌝ }
 {
     let hcnox = p.hcnox;
     let co = p.co;

@@ -2,13 +2,13 @@
 ghost use mathlib.Core.Path.{_≡_};
 ghost use Prim.Native.Nat.{ℕ};
 ghost use lib.Dec.{ltb};
-ghost use Rattle.buffers.specs.Rows.{first};
+ghost use Rattle.conditions.specs.Rows.{first};
 ghost use Rattle.year.specs.Periods.{needs};
 ghost use Rattle.year.specs.Verdict.{verdictTable, verdict};
 ghost use Rattle.year.specs.Admissible.{closed};
-ghost use Rattle.progress.specs.State.{shown, Figured, Consistent, Judged};
-use buffers::both;
-use buffers::either;
+ghost use Rattle.progress.specs.State.{progressOf, Figured, Consistent, Judged};
+use conditions::both;
+use conditions::either;
 use engines::summary::reached;
 use figures::Running;
 use progress::Progress;
@@ -61,7 +61,7 @@ pub fn is_short(current: u32, period: u32) -> bool
 // The verdict by the figures of both pollutants, worked at one resolution.
 pub fn verdict_by(p: Progress, hcnox: Running, co: Running) -> u8
     requires { ⌜ Judged p hcnox co ⌝ }
-    ensures { λ r. ⌜ ((k : ℕ) → Figured k (p .engines) hcnox co → r ≡ verdict k (shown p)) ⌝ }
+    ensures { λ r. ⌜ ((k : ℕ) → Figured k (p .engines) hcnox co → r ≡ verdict k (progressOf p)) ⌝ }
 {
     let n = p.engines.count as u64;
     let failed = either(hcnox.failed, co.failed);
@@ -75,7 +75,7 @@ pub fn verdict_by(p: Progress, hcnox: Running, co: Running) -> u8
 // The calculator's verdict, at resolution 1,024.
 pub fn verdict(p: Progress) -> u8
     requires { ⌜ Consistent p ⌝ }
-    ensures { λ r. ⌜ r ≡ verdict 1024 (shown p) ⌝ }
+    ensures { λ r. ⌜ r ≡ verdict 1024 (progressOf p) ⌝ }
 {
     let hcnox = p.hcnox;
     let co = p.co;
@@ -85,7 +85,7 @@ pub fn verdict(p: Progress) -> u8
 // The verdict is 6 or 7.
 pub fn closed(p: Progress) -> bool
     requires { ⌜ Consistent p ⌝ }
-    ensures { λ r. ⌜ r ≡ closed (shown p) ⌝ }
+    ensures { λ r. ⌜ r ≡ closed (progressOf p) ⌝ }
 {
     let hcnox = p.hcnox;
     let co = p.co;

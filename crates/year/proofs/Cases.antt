@@ -1,5 +1,4 @@
 -- The worked cases of a year, and document 01's starred cases. Deviations are found by their laws; the rest is computed.
--- Assumes nothing.
 use mathlib.Core.Path.{_≡_, refl}
 use lib.Dec.{lit<, lit≤}
 use Rattle.rounding.specs.Result.{nearestEven}

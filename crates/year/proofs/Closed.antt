@@ -1,10 +1,9 @@
 -- A year takes no more events exactly if it was declared or a pollutant has failed at resolution 1,024: the two verdicts come first.
--- Assumes nothing.
 use mathlib.Core.Path.{_≡_, refl}
 use mathlib.Core.Bool.{Bool, true, false, _||_}
 use Prim.Native.Nat.{ℕ}
 use lib.Dec.{eqb}
-use Rattle.buffers.specs.Rows.{first, applies}
+use Rattle.conditions.specs.Rows.{first, applies}
 use Rattle.cumsum.specs.Marks.{marks, failed}
 use Rattle.year.specs.Setup.{some, judged}
 use Rattle.year.specs.Replay.{Progress, history}

@@ -1,5 +1,4 @@
 -- Work at m beside the calculator's work, for a year: the marks in printed order, the verdict, the intervals.
--- Assumes nothing.
 use mathlib.Core.Path.{_≡_, refl, sym, ap, _∙_}
 use mathlib.Core.Logic.{_≢_}
 use mathlib.Core.Bool.{Bool, true, false, cond, _||_, So, false≢true}
@@ -11,7 +10,7 @@ use Rattle.cumsum.specs.declared.Mark.{Mark}
 use Rattle.cumsum.specs.Marks.{marks, failed, undecided}
 use Rattle.cumsum.proofs.Finer.{inside-within, cumsum-inside, limit-inside, cumsum-width, limit-width}
 use Rattle.cumsum.proofs.MarksFiner.{Refined, mark-refined, marks-refined, refined-lists}
-use Rattle.cumsum.proofs.Patterns.{or-map, or-exchange, failed-stays, open-was}
+use Rattle.cumsum.proofs.Patterns.{or-map, or-exchange, failed-stays, undecided-was}
 use Rattle.year.specs.declared.Setup.{Setup}
 use Rattle.year.specs.declared.Event.{Event}
 use Rattle.year.specs.Setup.{Pollutant, some, judged}
@@ -69,7 +68,7 @@ module _ (m : ℕ) (pos : 1 ≤ m) where
       _
       (some-map qs (λ q. failed-stays (refined q)))
       (λ t. some-or (λ q. failed (at 1024 q)) (λ q. undecided (at 1024 q)) qs
-      ∙ some-map qs (λ q. open-was (refined q)) (sym (some-or (λ q. failed (at (1024 * m) q)) (λ q. undecided (at (1024 * m) q)) qs) ∙ t))
+      ∙ some-map qs (λ q. undecided-was (refined q)) (sym (some-or (λ q. failed (at (1024 * m) q)) (λ q. undecided (at (1024 * m) q)) qs) ∙ t))
     where
       qs : List Pollutant
       qs = judged

@@ -1,5 +1,4 @@
 -- Every list of events that could have been entered keeps the ranges of a year.
--- Assumes nothing.
 use mathlib.Core.Path.{_≡_, refl}
 use mathlib.Core.Bool.{Bool, true, not, _&&_, _||_, and-eq-true-iff}
 use mathlib.Core.List.{List, [], _∷_}
@@ -9,8 +8,8 @@ use native.Mathlib.Omega.{arith}
 use lib.Dec.{leb, ltb, eqb}
 use lib.ListN.{length}
 use borrow.Author.Tests.{leb-true, leb-false, not-true, ne-eqb}
-use Rattle.buffers.specs.Numbers.{within}
-use Rattle.buffers.proofs.Tests.{by-test, or-false}
+use Rattle.conditions.specs.Ranges.{within}
+use Rattle.conditions.proofs.Tests.{by-test, or-false}
 use Rattle.rounding.specs.Result.{countInRange, resultInRange}
 use Rattle.year.specs.declared.Pair.{Pair}
 use Rattle.year.specs.declared.Setup.{Setup}

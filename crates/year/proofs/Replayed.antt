@@ -1,5 +1,4 @@
 -- What replay keeps of a setup and its events: the setup, how many events there are, and each engine in both histories.
--- Assumes nothing.
 use mathlib.Core.Path.{_≡_, refl, ap}
 use mathlib.Core.List.{List, [], _∷_}
 use Prim.Native.Nat.{suc}

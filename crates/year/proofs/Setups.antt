@@ -1,13 +1,12 @@
 -- The bounds of a setup in range, so that its stored form and the code know what room its numbers need.
--- Assumes nothing.
 use mathlib.Core.Path.{_≡_}
 use mathlib.Core.Bool.{Bool, true, _&&_, and-eq-true-iff}
 use Prim.Native.Nat.{ℕ, _≤_}
 use native.Mathlib.Omega.{arith}
 use lib.Dec.{eqb, leb}
 use borrow.Author.Tests.{eqb-true, leb-true}
-use Rattle.buffers.specs.Numbers.{within}
-use Rattle.buffers.proofs.Tests.{either-true}
+use Rattle.conditions.specs.Ranges.{within}
+use Rattle.conditions.proofs.Tests.{either-true}
 use Rattle.rounding.specs.declared.Factor.{Factor}
 use Rattle.rounding.specs.Result.{factorInRange}
 use Rattle.year.specs.declared.Setup.{Setup}

@@ -1,5 +1,4 @@
 -- A list of events that could have been entered is so without its newest event, and what was entered last was admissible.
--- Assumes nothing.
 use mathlib.Core.Path.{_≡_}
 use mathlib.Core.Bool.{true, and-eq-true-iff}
 use mathlib.Core.List.{List, _∷_}

@@ -1,12 +1,11 @@
 -- Which events could have been entered, and in which order (document 01, "The book", with the ranges of "From reading to result" and the conditions of
 -- its refusals 5, 8, 9, 10, 11, 13, 14 and 15). "each result from 0 to 20,000 being allowed, whether or not some reading yields it"
--- Assumes nothing.
 use mathlib.Core.Bool.{Bool, true, not, _&&_, _||_}
 use mathlib.Core.List.{List, [], _∷_}
 use Prim.Native.Nat.{ℕ}
 use lib.Dec.{eqb, leb}
 use lib.ListN.{length}
-use Rattle.buffers.specs.Numbers.{within}
+use Rattle.conditions.specs.Ranges.{within}
 use Rattle.rounding.specs.Result.{countInRange, resultInRange}
 use Rattle.year.specs.declared.Pair.{Pair}
 use Rattle.year.specs.declared.Setup.{Setup}

@@ -1,6 +1,5 @@
 -- Worked cases of a year beside document 01's starred ones: its two on one percent, its printed run, n = N, an amendment, and what may follow what.
 -- Events are listed with the newest first.
--- Assumes nothing.
 use mathlib.Core.Path.{_≡_}
 use mathlib.Core.Bool.{true, false}
 use mathlib.Core.List.{List, [], _∷_}

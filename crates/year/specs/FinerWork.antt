@@ -1,5 +1,4 @@
 -- Demand 3 on the definitions: work at m, resolution 1,024 × m, beside the calculator's at 1,024, for one year.
--- Assumes nothing.
 use mathlib.Core.Path.{_≡_}
 use mathlib.Core.Logic.{_≢_}
 use Prim.Native.Nat.{ℕ, _*_, _-_, _≤_}

@@ -1,5 +1,4 @@
 -- Document 01, "The plain year of a list of calls": the state of the reference model ("plain year"), which is also what a stored journal is read as.
--- Assumes nothing.
 use mathlib.Core.Bool.{Bool, true, false}
 use mathlib.Core.List.{List}
 use Rattle.year.specs.declared.Setup.{Setup}

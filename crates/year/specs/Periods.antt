@@ -1,5 +1,4 @@
 -- Document 01, "Periods".
--- Assumes nothing.
 use mathlib.Core.Bool.{cond}
 use Prim.Native.Nat.{ℕ}
 use lib.Dec.{leb, ltb, eqb}

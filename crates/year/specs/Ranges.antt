@@ -1,5 +1,4 @@
 -- The ranges of a year, which every list of events that could have been entered keeps (`valid-in-range` in proofs/Ranges.antt). The code works in them.
--- Assumes nothing.
 use mathlib.Core.Path.{_≡_}
 use mathlib.Core.Bool.{true}
 use mathlib.Core.List.{List, [], _∷_}

@@ -1,6 +1,5 @@
 -- What a setup and its events amount to: every figure of document 01 is worked from this, and none looks at the events themselves.
 -- Events and tested engines are listed with the newest first.
--- Assumes nothing.
 use mathlib.Core.Bool.{Bool, true, false, cond, _||_}
 use mathlib.Core.List.{List, [], _∷_}
 use Prim.Native.Nat.{ℕ, _+_}

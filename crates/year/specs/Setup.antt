@@ -1,10 +1,9 @@
 -- Document 01, "The year that a book holds": one family, one model year, two pollutants; and the ranges of a setup.
--- Assumes nothing.
 use mathlib.Core.Bool.{Bool, true, false, _&&_, _||_}
 use mathlib.Core.List.{List, [], _∷_}
 use Prim.Native.Nat.{ℕ, _%_}
 use lib.Dec.{eqb}
-use Rattle.buffers.specs.Numbers.{within}
+use Rattle.conditions.specs.Ranges.{within}
 use Rattle.rounding.specs.declared.Factor.{Factor}
 use Rattle.rounding.specs.Result.{factorInRange}
 use Rattle.year.specs.declared.Pair.{Pair}

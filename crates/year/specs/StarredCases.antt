@@ -1,6 +1,5 @@
 -- The starred cases of document 01, "Cases on the edges", every one of them and in its order, as one statement about the definitions.
 -- Events are listed with the newest first.
--- Assumes nothing.
 use mathlib.Core.Path.{_≡_}
 use mathlib.Core.List.{[], _∷_, reverse}
 use Prim.Native.Nat.{_*_}

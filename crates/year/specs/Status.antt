@@ -1,5 +1,4 @@
 -- Document 01, "The book": what status gives; and the marks of a year in the order in which they are printed.
--- Assumes nothing.
 use mathlib.Core.List.{List, [], _∷_, _++_, map}
 use Prim.Native.Nat.{ℕ}
 use lib.ListN.{length}

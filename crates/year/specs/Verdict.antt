@@ -1,11 +1,10 @@
 -- Document 01, "Verdict", at resolution k: the first row that applies.
--- Assumes nothing.
 use mathlib.Core.Bool.{Bool}
 use mathlib.Core.List.{List, [], _∷_}
 use Prim.Native.Nat.{ℕ}
 use lib.Dec.{leb}
 use lib.ListN.{length}
-use Rattle.buffers.specs.Rows.{Row, first}
+use Rattle.conditions.specs.Rows.{Row, first}
 use Rattle.rounding.specs.Result.{nearestEven}
 use Rattle.statistics.specs.SampleSize.{sizeReachedOf}
 use Rattle.cumsum.specs.Marks.{marks, failed, undecided}

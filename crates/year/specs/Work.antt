@@ -1,5 +1,4 @@
 -- Document 01, "Spread, brackets, marks": "Work at m takes k = 1,024 × m in all of this, and its marks in the verdict below". The calculator's work is that at m = 1.
--- Assumes nothing.
 use mathlib.Core.List.{List}
 use Prim.Native.Nat.{ℕ, _*_, _-_}
 use lib.ListN.{length, drop}

@@ -1,5 +1,5 @@
--- `admissible::engine_fits` meets its contract. Assumes nothing.
-use Rattle.buffers.proofs.Tests.{ltb-not-leb}
+-- `admissible::engine_fits` meets its contract.
+use Rattle.conditions.proofs.Tests.{ltb-not-leb}
 use Rattle.progress.proofs.Carried.{count-le, counted}
 use borrow.Author.Needs.{needs}
 use Rattle.admission.proofs.engine_fits.Statement.{statement}

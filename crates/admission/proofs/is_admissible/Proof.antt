@@ -1,6 +1,6 @@
--- `admissible::is_admissible` meets its contract. Assumes nothing.
+-- `admissible::is_admissible` meets its contract.
 use Rattle.year.specs.Admissible.{admissible}
-use Rattle.buffers.proofs.Tests.{ltb-not-leb}
+use Rattle.conditions.proofs.Tests.{ltb-not-leb}
 use borrow.Author.Needs.{needs}
 use Rattle.admission.proofs.is_admissible.Statement.{statement}
 use Rattle.admission.proofs.is_admissible.Tie as tie

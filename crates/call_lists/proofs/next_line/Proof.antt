@@ -1,4 +1,4 @@
--- `next_line` meets its contract. Assumes nothing.
+-- `next_line` meets its contract.
 use native.Mathlib.Omega.{arith}
 use lib.ListN.{length-take}
 use borrow.Author.Needs.{needs}

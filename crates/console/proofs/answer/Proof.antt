@@ -1,4 +1,4 @@
--- `answer` meets its contract. Assumes nothing.
+-- `answer` meets its contract.
 use mathlib.Core.Path.{sym, ap, _∙_}
 use native.Mathlib.Omega.{arith}
 use lib.ListN.{take}

@@ -1,4 +1,4 @@
--- `end_input` meets its contract. Assumes nothing.
+-- `end_input` meets its contract.
 use mathlib.Core.Path.{refl, sym, ap, _∙_}
 use lib.ListN.{take, length-take}
 use Rattle.console.proofs.Keying.{held-front, nothing-shown, some-end}

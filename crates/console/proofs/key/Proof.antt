@@ -1,4 +1,4 @@
--- `key` meets its contract. Assumes nothing.
+-- `key` meets its contract.
 use mathlib.Core.Path.{refl}
 use borrow.Author.Tests.{ne-eqb}
 use Rattle.console.proofs.Keying.{nothing-shown}

@@ -1,4 +1,4 @@
--- `main` meets its contract. The invariant: the arrays keep their lengths. Assumes nothing.
+-- `main` meets its contract. The invariant: the arrays keep their lengths.
 use mathlib.Core.Path.{_≡_}
 use Prim.Native.Nat.{_-_}
 use native.Mathlib.Omega.{arith}

@@ -1,4 +1,4 @@
--- `try_next` meets its contract. Assumes nothing.
+-- `try_next` meets its contract.
 use native.Mathlib.Omega.{arith}
 use lib.ListN.{length-append, length-take, length-drop}
 use borrow.Author.Needs.{needs}

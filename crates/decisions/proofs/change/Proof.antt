@@ -1,10 +1,10 @@
 -- `change` meets its contract.
 use mathlib.Core.Path.{_≡_, sym, _∙_}
-use Rattle.buffers.specs.Rows.{first}
+use Rattle.conditions.specs.Rows.{first}
 use Rattle.reference.specs.Call.{EnterChange}
 use Rattle.refusals.specs.Parts.{entryRows}
 use Rattle.refusals.proofs.Parts.{unfitStandards, entry-held}
-use Rattle.refusals.proofs.ScannedYear.{told-consistent}
+use Rattle.refusals.proofs.ScannedYear.{scanned-consistent}
 use Rattle.decisions.proofs.Decided.{shared-refused, change-decided}
 use borrow.Author.Needs.{needs}
 use Rattle.decisions.proofs.change.Statement.{statement}
@@ -30,7 +30,7 @@ none c = rw (← c .before .before .is-unfit .ensures) (sym (c .before .entry-re
 change-refusal-requires : tie.Need-change-refusal-requires
 change-refusal-requires c κs =
     let s = c .before .before .before .before in
-    told-consistent (s .args .scanned) _ (s .pre) (entry-held (EnterChange (s .args .c)) (s .args .journal .now) (none c))
+    scanned-consistent (s .args .scanned) _ (s .pre) (entry-held (EnterChange (s .args .c)) (s .args .journal .now) (none c))
 
 change-event-requires : tie.Need-change-event-requires
 change-event-requires c κs = search needs

@@ -2,7 +2,7 @@
 use mathlib.Core.Bool.{_||_, Bool·not-not}
 use Rattle.year.specs.Replay.{short}
 use Rattle.year.specs.Admissible.{lastPeriod}
-use Rattle.progress.specs.State.{shown}
+use Rattle.progress.specs.State.{progressOf}
 use borrow.Author.Needs.{needs}
 use Rattle.decisions.proofs.change_refusal.Statement.{statement}
 use Rattle.decisions.proofs.change_refusal.Tie as tie
@@ -27,7 +27,7 @@ returns c = search needs
 
 returns-2 : tie.Need-returns-2
 returns-2 c =
-    let p = shown (c .before .before .before .before .args .p) in
+    let p = progressOf (c .before .before .before .before .args .p) in
     rw (c .before .before .enum-told2 .given .1, c .row .ensures, c .before .period-fits .ensures, Bool·not-not (lastPeriod p || short p))
 
 returns-3 : tie.Need-returns-3

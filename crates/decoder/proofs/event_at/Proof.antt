@@ -1,4 +1,4 @@
--- `event_at` meets its contract: one line for each kind. Assumes nothing.
+-- `event_at` meets its contract: one line for each kind.
 use native.Mathlib.Omega.{arith}
 use borrow.Author.Tests.{eq-eqb, ne-eqb}
 use borrow.Author.Needs.{needs}

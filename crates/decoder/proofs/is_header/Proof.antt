@@ -1,4 +1,4 @@
--- `is_header` meets its contract. Assumes nothing.
+-- `is_header` meets its contract.
 use Rattle.decoder.proofs.Headers.{header-tests}
 use borrow.Author.Needs.{needs}
 use Rattle.decoder.proofs.is_header.Statement.{statement}

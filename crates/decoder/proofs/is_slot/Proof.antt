@@ -1,4 +1,4 @@
--- `is_slot` meets its contract: one law for each answer. Assumes nothing.
+-- `is_slot` meets its contract: one law for each answer.
 use mathlib.Core.Path.{sym}
 use Rattle.decoder.proofs.Slots.{engine-slot, amendment-slot, other-slot}
 use borrow.Author.Needs.{needs}

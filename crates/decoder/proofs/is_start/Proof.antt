@@ -1,4 +1,4 @@
--- `is_start` meets its contract. Assumes nothing.
+-- `is_start` meets its contract.
 use Rattle.decoder.proofs.Headers.{start-tests}
 use borrow.Author.Needs.{needs}
 use Rattle.decoder.proofs.is_start.Statement.{statement}

@@ -1,4 +1,4 @@
--- `setup_in` meets its contract. Assumes nothing.
+-- `setup_in` meets its contract.
 use native.Mathlib.Omega.{arith}
 use borrow.Author.Needs.{needs}
 use Rattle.decoder.proofs.setup_in.Statement.{statement}

@@ -1,7 +1,7 @@
 -- `make` meets its contract.
 use mathlib.Core.Path.{refl, ap}
 use Rattle.reference.specs.Call.{Marks, Write, SetUp, Enter}
-use Rattle.requests.specs.Request.{entryFor, callFor}
+use Rattle.parser.specs.Request.{entryFor, callFor}
 use Rattle.dispatch.proofs.Made.{answered, asked}
 use borrow.Author.Needs.{needs}
 use Rattle.dispatch.proofs.make.Statement.{statement}

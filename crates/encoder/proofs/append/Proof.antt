@@ -1,4 +1,4 @@
--- `append` meets its contract. Assumes nothing.
+-- `append` meets its contract.
 use mathlib.Core.Path.{refl}
 use native.Mathlib.Omega.{arith}
 use Rattle.encoder.proofs.Appended.{appended}

@@ -1,4 +1,4 @@
--- `write_event` meets its contract: one line for each kind. Assumes nothing.
+-- `write_event` meets its contract: one line for each kind.
 use mathlib.Core.Path.{subst}
 use Prim.Native.Nat.{_<_}
 use native.Mathlib.Omega.{arith}

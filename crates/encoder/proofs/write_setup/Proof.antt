@@ -1,4 +1,4 @@
--- `write_setup` meets its contract: the 544 bytes are computed. Assumes nothing.
+-- `write_setup` meets its contract: the 544 bytes are computed.
 use mathlib.Core.Path.{ap}
 use mathlib.Core.List.{List}
 use Prim.Native.Nat.{ℕ}

@@ -1,4 +1,4 @@
--- `write_slot` meets its contract. Assumes nothing.
+-- `write_slot` meets its contract.
 use mathlib.Core.Path.{ap}
 use mathlib.Core.List.{List, _++_}
 use Prim.Native.Nat.{ℕ}

@@ -1,14 +1,14 @@
 -- `engine` meets its contract.
 use mathlib.Core.Path.{_≡_, sym, _∙_}
 use mathlib.Core.Bool.{false}
-use Rattle.buffers.specs.Rows.{first}
+use Rattle.conditions.specs.Rows.{first}
 use Rattle.reference.specs.Call.{engineEntry}
 use Rattle.refusals.specs.Parts.{entryRows}
 use borrow.Author.Needs.{needs}
 use Rattle.refusals.proofs.Parts.{entry-held}
 use Rattle.decisions.proofs.Decided.{shared-refused}
 use Rattle.engine_decision.proofs.OneEngine.{engine-decided}
-use Rattle.refusals.proofs.ScannedYear.{told-consistent}
+use Rattle.refusals.proofs.ScannedYear.{scanned-consistent}
 use Rattle.engine_decision.proofs.engine.Statement.{statement}
 use Rattle.engine_decision.proofs.engine.Tie as tie
 
@@ -28,7 +28,7 @@ engine-decision-requires : tie.Need-engine-decision-requires
 engine-decision-requires c κs =
     let s = c .before .before .before .before .before in
     let a = s .args in
-    told-consistent (a .scanned) _ (s .pre)
+    scanned-consistent (a .scanned) _ (s .pre)
     (entry-held (engineEntry (a .number) (a .hcnox .now) (a .co .now)) (a .journal .now) (none c))
 
 returns-2 : tie.Need-returns-2

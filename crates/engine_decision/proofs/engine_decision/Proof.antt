@@ -3,8 +3,8 @@ use mathlib.Core.Path.{_≡_, sym, _∙_}
 use Prim.Native.Nat.{_≤_}
 use native.Mathlib.Omega.{arith}
 use lib.ListN.{length}
-use Rattle.buffers.specs.Rows.{first}
-use Rattle.progress.specs.State.{shown}
+use Rattle.conditions.specs.Rows.{first}
+use Rattle.progress.specs.State.{progressOf}
 use Rattle.progress.proofs.Carried.{counted}
 use Rattle.reference.specs.Call.{Readings}
 use Rattle.engine_decision.specs.Rows.{askedRows}
@@ -23,11 +23,11 @@ returns : tie.Need-returns
 returns c =
     let r = c .before .asked-refusal in
     let s = c .before .before .before .before in
-    asked-refused (s .args .number) (readings s) (shown (s .args .p)) (r .result) (r .ensures) (c .if1 .taken)
+    asked-refused (s .args .number) (readings s) (progressOf (s .args .p)) (r .result) (r .ensures) (c .if1 .taken)
 
 none : (c : tie.Else1)
     → let s = c .before .before .before .before in
-    first (askedRows (s .args .number) (readings s) (shown (s .args .p))) 0 ≡ 0
+    first (askedRows (s .args .number) (readings s) (progressOf (s .args .p))) 0 ≡ 0
 none c = sym (c .before .asked-refusal .ensures) ∙ c .if1 .left
 
 counts : (c : tie.Else1)
@@ -35,7 +35,7 @@ counts : (c : tie.Else1)
     (length (s .args .hcnox .now) ≡ length (s .args .co .now)) × (1 ≤ length (s .args .hcnox .now)) × (length (s .args .hcnox .now) ≤ 3)
 counts c =
     let s = c .before .before .before .before in
-    asked-counts (s .args .number) (readings s) (shown (s .args .p)) (none c)
+    asked-counts (s .args .number) (readings s) (progressOf (s .args .p)) (none c)
 
 result-of-requires : tie.Need-result-of-requires
 result-of-requires c κs = (counts (c .before) .1, counts (c .before) .2)
@@ -53,7 +53,7 @@ returns-2 c =
     let w = c .before in
     let e = w .before .before .before .before in
     let s = e .before .before .before .before in
-    results-refused (s .args .number) (readings s) (shown (s .args .p)) (none e)
+    results-refused (s .args .number) (readings s) (progressOf (s .args .p)) (none e)
     (w .before .before .result-of .result) (w .before .result-of2 .result) (s .args .p .engines .count)
     (w .before .before .result-of .ensures) (w .before .result-of2 .ensures) (sym (counted (s .args .p) (s .pre)))
     (w .worked-refusal .result) (w .worked-refusal .ensures) (c .if2 .taken)
@@ -81,7 +81,7 @@ returns-3 c =
     let w = c .before in
     let e = w .before .before .before .before in
     let s = e .before .before .before .before in
-    results-added (s .args .number) (readings s) (shown (s .args .p)) (none e)
+    results-added (s .args .number) (readings s) (progressOf (s .args .p)) (none e)
     (w .before .before .result-of .result) (w .before .result-of2 .result) (s .args .p .engines .count)
     (w .before .before .result-of .ensures) (w .before .result-of2 .ensures) (sym (counted (s .args .p) (s .pre)))
     (sym (w .worked-refusal .ensures) ∙ c .if2 .left)

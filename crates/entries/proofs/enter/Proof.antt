@@ -3,7 +3,7 @@ use mathlib.Core.Path.{sym, ap, subst, _∙_}
 use Rattle.year.specs.Status.{status}
 use Rattle.reference.specs.declared.Answer.the-variants.{Accepted}
 use Rattle.encoder.proofs.Fits.{event-fits}
-use Rattle.progress.specs.State.{shown}
+use Rattle.progress.specs.State.{progressOf}
 use Rattle.entries.specs.Entering.{CanAdd, Enterable, answerTo}
 use borrow.Author.Needs.{needs}
 use Rattle.entries.proofs.enter.Statement.{statement}
@@ -17,7 +17,7 @@ append-requires c κs =
     let d = c .before .before in
     let s = d .before .before .before in
     let can : CanAdd (s .args .journal .now) (s .args .p) (d .decision .given .0 .0) = subst (Enterable (s .args .journal .now) (s .args .p)) (d .decision .given .1) (s .pre) in
-    (can .size, can .room, event-fits (shown (s .args .p)) _ (can .admitted))
+    (can .size, can .room, event-fits (progressOf (s .args .p)) _ (can .admitted))
 
 after-requires : tie.Need-after-requires
 after-requires c κs =
@@ -40,7 +40,7 @@ returns c =
     let a = c .before .before .before .before in
     let d = a .before .before .before in
     let s = d .before .before .before in (
-      ap Accepted (c .status-of .ensures ∙ ap (status 1024) (c .before .after .ensures .0)) ∙ ap (λ x. answerTo x (shown (s .args .p))) (sym (d .decision .given .1)),
+      ap Accepted (c .status-of .ensures ∙ ap (status 1024) (c .before .after .ensures .0)) ∙ ap (λ x. answerTo x (progressOf (s .args .p))) (sym (d .decision .given .1)),
       rw (a .append .ensures, d .decision .given .1),
     )
 

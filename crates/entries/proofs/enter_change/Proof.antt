@@ -1,6 +1,5 @@
 -- `enter_change` meets its contract.
 use Rattle.reference.specs.Call.{EnterChange}
-use Rattle.scan.proofs.Whole.{tells}
 use borrow.Author.Needs.{needs}
 use Rattle.entries.proofs.Entered.{enterable, entered}
 use Rattle.entries.proofs.enter_change.Statement.{statement}
@@ -17,7 +16,7 @@ enter-requires c κs =
     let d = c .before .change in
     let k = c .before .before .before .scan-journal in
     let a = c .before .before .before .before .before .before .args in
-    enterable (EnterChange (a .c)) (a .journal .now) (k .result) (tells (k .result) _ (k .ensures)) (d .result) (d .ensures)
+    enterable (EnterChange (a .c)) (a .journal .now) (k .result) (k .ensures) (d .result) (d .ensures)
 
 same-length : tie.Need-same-length
 same-length c = search needs
@@ -28,7 +27,7 @@ returns c =
     let d = e .before .before .change in
     let k = e .before .before .before .before .scan-journal in
     let a = e .before .before .before .before .before .before .before .args in
-    entered (EnterChange (a .c)) (a .journal .now) (k .result) (tells (k .result) _ (k .ensures)) (d .result) (d .ensures) (e .enter .result) (e .enter .last .0) (e .enter .ensures .0) (e .enter .ensures .1)
+    entered (EnterChange (a .c)) (a .journal .now) (k .result) (k .ensures) (d .result) (d .ensures) (e .enter .result) (e .enter .last .0) (e .enter .ensures .0) (e .enter .ensures .1)
 
 pub enter-change-spec : {M : Type 1} → statement M
 enter-change-spec =

@@ -1,6 +1,6 @@
 -- `set_up` meets its contract.
 use mathlib.Core.Path.{_≡_, sym, _∙_}
-use Rattle.progress.specs.State.{shown}
+use Rattle.progress.specs.State.{progressOf}
 use Rattle.reference.specs.Call.{SetUp}
 use Rattle.reference.specs.Answers.{refusalOn}
 use borrow.Author.Needs.{needs}
@@ -44,7 +44,7 @@ returns-2 c =
     let w = c .before .before .before .before in
     let e = w .before .before in
     let a = e .before .before .before .before .args in
-    setup-done (a .s) (a .journal .now) (none e) (c .status-of .result) (w .write-setup .last .0) (shown (c .before .start .result)) (c .status-of .ensures) (c .before .start .ensures .0) (w .write-setup .ensures)
+    setup-done (a .s) (a .journal .now) (none e) (c .status-of .result) (w .write-setup .last .0) (progressOf (c .before .start .result)) (c .status-of .ensures) (c .before .start .ensures .0) (w .write-setup .ensures)
 
 pub set-up-spec : {M : Type 1} → statement M
 set-up-spec =

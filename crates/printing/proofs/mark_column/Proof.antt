@@ -1,5 +1,4 @@
 -- `mark_column` meets its contract. The invariant: the sums, C and the column are those past the engines before i. The measure is what is left.
--- Assumes nothing.
 use mathlib.Core.Path.{_≡_}
 use mathlib.Core.Logic.{⊎-elim}
 use Prim.Native.Nat.{_+_, _-_, _≤_}

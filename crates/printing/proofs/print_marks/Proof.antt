@@ -1,4 +1,4 @@
--- `print_marks` meets its contract. The invariant: the marks of the engines before i stand in the buffer. The measure is what is left. Assumes nothing.
+-- `print_marks` meets its contract. The invariant: the marks of the engines before i stand in the buffer. The measure is what is left.
 use mathlib.Core.Path.{_≡_, refl, _∙_}
 use Prim.Native.Nat.{_-_, _≤_}
 use native.Mathlib.Omega.{arith}

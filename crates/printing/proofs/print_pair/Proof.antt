@@ -1,4 +1,4 @@
--- `print_pair` meets its contract. Assumes nothing.
+-- `print_pair` meets its contract.
 use mathlib.Core.List.{[], _∷_}
 use native.Mathlib.Numerals.{add-one}
 use native.Mathlib.Omega.{arith}

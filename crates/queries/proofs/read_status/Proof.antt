@@ -2,7 +2,6 @@
 use mathlib.Core.Path.{_≡_, sym, _∙_}
 use Rattle.reference.specs.Call.{ReadStatus, Ask}
 use Rattle.reference.specs.Answers.{refusalOn}
-use Rattle.scan.proofs.Whole.{tells}
 use borrow.Author.Needs.{needs}
 use Rattle.reference.proofs.Promises.{refused}
 use Rattle.queries.proofs.Written.{status-ready, status-done}
@@ -27,13 +26,13 @@ none c = sym (c .before .status-refusal .ensures) ∙ c .if1 .left
 status-of-requires : tie.Need-status-of-requires
 status-of-requires c κs =
     let k = c .before .before .scan-journal in
-    status-ready (c .before .before .before .before .args .journal .now) (k .result) (tells (k .result) _ (k .ensures)) (none c)
+    status-ready (c .before .before .before .before .args .journal .now) (k .result) (k .ensures) (none c)
 
 returns-2 : tie.Need-returns-2
 returns-2 c =
     let e = c .before in
     let k = e .before .before .scan-journal in
-    let kept = status-done (e .before .before .before .before .args .journal .now) (k .result) (tells (k .result) _ (k .ensures)) (none e) (c .status-of .result) (c .status-of .ensures) in
+    let kept = status-done (e .before .before .before .before .args .journal .now) (k .result) (k .ensures) (none e) (c .status-of .result) (c .status-of .ensures) in
     (kept .0, kept .1 .0)
 
 pub read-status-spec : {M : Type 1} → statement M

@@ -2,7 +2,6 @@
 -- the proof knows of `number_at` is that it meets its contract.
 -- The struct is Copy: what it owns is had twice, one copy is kept whole for the exit, and of the other what line owns goes to the callee, beside the
 -- lifetime's token, which comes back.
--- Assumes nothing.
 use mathlib.Core.Path.{_≡_, refl}
 use Prim.Native.Nat.{_<_, _^_}
 use mathlib.Core.List.{[], _∷_}

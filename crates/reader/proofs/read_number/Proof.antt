@@ -2,7 +2,6 @@
 -- proof knows of `new` and of `next_number` is that each meets its contract.
 -- The machine value that `new` returns is stored and passed on as it is. In a local of a body MIR erases the lifetime of the struct's type, so the value is
 -- shown to have the type at `erased`: what the struct owns does not say the lifetime's name.
--- Assumes nothing.
 use mathlib.Core.Path.{_≡_, refl, ap, _∙_}
 use Prim.Native.Nat.{ℕ, _<_, _^_}
 use mathlib.Core.List.{List, [], _∷_}

@@ -6,7 +6,7 @@ use Rattle.year.specs.Admissible.{closed, eventsFull}
 use Rattle.year.specs.Model.{noSetup}
 use Rattle.journal.specs.Read.{readJournal}
 use borrow.Author.Needs.{needs}
-use Rattle.refusals.proofs.ScannedYear.{told-none, told-consistent, told-test}
+use Rattle.refusals.proofs.ScannedYear.{scanned-none, scanned-consistent, scanned-test}
 use Rattle.refusals.proofs.entry_refusal.Statement.{statement}
 use Rattle.refusals.proofs.entry_refusal.Tie as tie
 
@@ -20,16 +20,16 @@ returns-3 : tie.Need-returns-3
 returns-3 c =
     let e = c .before .before in
     let s = e .before .before .before in
-    rw (eq-eqb _ 544 (e .before .if1 .left), e .if2 .left, told-none (s .args .scanned) _ (s .pre) ∙ c .if3 .taken)
+    rw (eq-eqb _ 544 (e .before .if1 .left), e .if2 .left, scanned-none (s .args .scanned) _ (s .pre) ∙ c .if3 .taken)
 
 -- past the three tests a year is held
 held : (c : tie.Else3) → let s = c .before .before .before .before .before in noSetup (readJournal (s .args .journal .now)) ≡ false
-held c = let s = c .before .before .before .before .before in told-none (s .args .scanned) _ (s .pre) ∙ c .if3 .left
+held c = let s = c .before .before .before .before .before in scanned-none (s .args .scanned) _ (s .pre) ∙ c .if3 .left
 
 closed-requires : tie.Need-closed-requires
 closed-requires c κs =
     let s = c .before .before .before .before .before .before in
-    told-consistent (s .args .scanned) _ (s .pre) (held (c .before))
+    scanned-consistent (s .args .scanned) _ (s .pre) (held (c .before))
 
 row-requires : tie.Need-row-requires
 row-requires c κs = search needs
@@ -42,7 +42,7 @@ returns-4 c =
     let t = c .before .before .before .before .before in
     let e = t .before .before in
     let s = e .before .before .before in
-    let year = told-test (s .args .scanned) _ (s .pre) (held t) in
+    let year = scanned-test (s .args .scanned) _ (s .pre) (held t) in
     rw (
       c .row2 .ensures,
       c .before .row .ensures,

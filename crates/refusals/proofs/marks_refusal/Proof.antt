@@ -1,14 +1,14 @@
 -- `marks_refusal` meets its contract.
 use mathlib.Core.Path.{_≡_, sym, _∙_}
 use native.Mathlib.Omega.{arith}
-use Rattle.buffers.specs.Rows.{first}
+use Rattle.conditions.specs.Rows.{first}
 use Rattle.progress.specs.State.{Consistent}
 use Rattle.progress.proofs.Carried.{count-le, counted}
 use Rattle.reference.specs.Refusals.{refusals, refusal}
 use borrow.Author.Needs.{needs}
 use Rattle.refusals.specs.Parts.{statusRows}
 use Rattle.refusals.proofs.Parts.{status-held, marks-refused, marks-decided}
-use Rattle.refusals.proofs.ScannedYear.{told-consistent}
+use Rattle.refusals.proofs.ScannedYear.{scanned-consistent}
 use Rattle.refusals.proofs.marks_refusal.Statement.{statement}
 use Rattle.refusals.proofs.marks_refusal.Tie as tie
 
@@ -29,7 +29,7 @@ none c = sym (c .before .status-refusal .ensures) ∙ c .if1 .left
 consistent : (c : tie.Else1) → Consistent (c .before .before .before .args .scanned .progress)
 consistent c =
     let s = c .before .before .before in
-    told-consistent (s .args .scanned) _ (s .pre) (status-held (s .args .journal .now) (none c))
+    scanned-consistent (s .args .scanned) _ (s .pre) (status-held (s .args .journal .now) (none c))
 
 mul-row : tie.Need-mul-row
 mul-row c = omega (arith, count-le _ (consistent c))

@@ -1,4 +1,4 @@
--- `write_answer` meets its contract. Assumes nothing.
+-- `write_answer` meets its contract.
 use borrow.Author.Needs.{needs}
 use Rattle.replies.proofs.write_answer.Statement.{statement}
 use Rattle.replies.proofs.write_answer.Tie as tie

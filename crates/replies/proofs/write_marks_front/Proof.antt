@@ -1,7 +1,7 @@
--- `write_marks_front` meets its contract. Assumes nothing.
+-- `write_marks_front` meets its contract.
 use mathlib.Core.Path.{_≡_}
 use native.Mathlib.Omega.{arith}
-use Rattle.buffers.specs.Text.{text}
+use Rattle.ascii.specs.Text.{text}
 use Rattle.replies.specs.Replied.{marksFront}
 use Rattle.replies.proofs.Replied.{front-some}
 use borrow.Author.Needs.{needs}

@@ -1,4 +1,4 @@
--- `write_refusal` meets its contract. Assumes nothing.
+-- `write_refusal` meets its contract.
 use native.Mathlib.Omega.{arith}
 use Rattle.text.proofs.Written.{then-front}
 use Rattle.replies.proofs.Replied.{replied}

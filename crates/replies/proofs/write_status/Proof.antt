@@ -1,4 +1,4 @@
--- `write_status` meets its contract. Assumes nothing.
+-- `write_status` meets its contract.
 use Prim.Native.Nat.{_≤_}
 use native.Mathlib.Omega.{arith}
 use lib.ListN.{length}

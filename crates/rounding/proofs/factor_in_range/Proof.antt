@@ -1,4 +1,4 @@
--- `factor_in_range` meets its contract: kind 0, kind 1, and any other kind. Assumes nothing.
+-- `factor_in_range` meets its contract: kind 0, kind 1, and any other kind.
 use mathlib.Core.Path.{_≡_, sym}
 use mathlib.Core.Bool.{or-false}
 use lib.Dec.{leb}

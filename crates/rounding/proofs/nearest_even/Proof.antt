@@ -1,4 +1,4 @@
--- `nearest_even` meets its contract, by the cases of nearest-even. Assumes nothing.
+-- `nearest_even` meets its contract, by the cases of nearest-even.
 use mathlib.Core.Path.{sym}
 use native.Mathlib.Nat.{mod-lt}
 use native.Mathlib.Omega.{arith}

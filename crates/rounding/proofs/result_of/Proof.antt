@@ -1,4 +1,4 @@
--- `result_of` meets its contract. Assumes nothing.
+-- `result_of` meets its contract.
 use mathlib.Core.Path.{_≡_}
 use mathlib.Core.List.{List, map}
 use Prim.Native.Nat.{ℕ}

@@ -1,5 +1,4 @@
 -- `rounded_sum` meets its contract. The invariant: what is added and what is left make the whole sum, and each turn adds less than 4,294,969.
--- Assumes nothing.
 use mathlib.Core.Path.{_≡_}
 use Prim.Native.Nat.{_+_, _*_, _-_, _≤_}
 use native.Mathlib.Omega.{arith}

@@ -1,4 +1,4 @@
--- `with_factor` meets its contract. Assumes nothing.
+-- `with_factor` meets its contract.
 use Prim.Native.Nat.{_^_, _≤_}
 use native.Mathlib.Nat.{mul-le-mul}
 use native.Mathlib.Omega.{arith}

@@ -1,10 +1,10 @@
--- `scan_events` meets its contract. Assumes nothing.
+-- `scan_events` meets its contract.
 use mathlib.Core.Path.{sym, subst}
 use borrow.Author.Needs.{needs}
 use borrow.Author.Tests.{not-true}
-use Rattle.buffers.proofs.Tests.{not-false}
-use Rattle.scan.specs.Scan.{Tells}
-use Rattle.scan.proofs.Entering.{no-setup, started}
+use Rattle.conditions.proofs.Tests.{not-false}
+use Rattle.slots.specs.Scanned.{ScannedAs}
+use Rattle.slots.proofs.Entering.{no-setup, started}
 use Rattle.scan.proofs.scan_events.Statement.{statement}
 use Rattle.scan.proofs.scan_events.Tie as tie
 
@@ -21,7 +21,7 @@ returns : tie.Need-returns
 returns c =
     let g = c .before .before in
     let s = g .before in
-    subst (Tells (c .no-journal .result))
+    subst (ScannedAs (c .no-journal .result))
     (sym (no-setup _ (s .setup-in .result) (g .setup-in-range .result) (s .setup-in .ensures) (g .setup-in-range .ensures) _ (not-true _ (c .before .if1 .taken))))
     (c .no-journal .ensures)
 

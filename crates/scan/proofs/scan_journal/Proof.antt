@@ -1,9 +1,10 @@
--- `scan_journal` meets its contract: each test that fails refuses a part of an accepted journal, and where none does the events decide. Assumes nothing.
-use mathlib.Core.Path.{sym, _∙_}
+-- `scan_journal` meets its contract: each test that fails refuses a part of an accepted journal, and where none does the events decide.
+use mathlib.Core.Path.{sym, subst, _∙_}
 use native.Mathlib.Omega.{arith}
 use borrow.Author.Tests.{not-true}
-use Rattle.buffers.proofs.Tests.{not-false}
-use Rattle.scan.proofs.Whole.{as-promised, other-size, too-many, other-bytes, by-events}
+use Rattle.conditions.proofs.Tests.{not-false}
+use Rattle.slots.specs.Scanned.{ScannedAs}
+use Rattle.scan.proofs.Whole.{other-size, too-many, other-bytes, by-events}
 use borrow.Author.Needs.{needs}
 use Rattle.scan.proofs.scan_journal.Statement.{statement}
 use Rattle.scan.proofs.scan_journal.Tie as tie
@@ -12,7 +13,7 @@ no-journal-requires : tie.Need-no-journal-requires
 no-journal-requires c κs = search needs
 
 returns : tie.Need-returns
-returns c = as-promised (c .no-journal .result) (sym (other-size _ (c .before .if1 .taken))) (c .no-journal .ensures)
+returns c = subst (ScannedAs (c .no-journal .result)) (sym (other-size _ (c .before .if1 .taken))) (c .no-journal .ensures)
 
 shared-slice-read-count : tie.Need-shared-slice-read-count
 shared-slice-read-count c = search needs
@@ -24,7 +25,7 @@ no-journal-requires-2 : tie.Need-no-journal-requires-2
 no-journal-requires-2 c κs = search needs
 
 returns-2 : tie.Need-returns-2
-returns-2 c = as-promised (c .no-journal2 .result) (sym (too-many _ (c .before .if2 .taken))) (c .no-journal2 .ensures)
+returns-2 c = subst (ScannedAs (c .no-journal2 .result)) (sym (too-many _ (c .before .if2 .taken))) (c .no-journal2 .ensures)
 
 mul-unused : tie.Need-mul-unused
 mul-unused c = search needs
@@ -58,7 +59,7 @@ returns-3 c =
     let b = c .before .before in
     let z = b .before in
     let h = z .before .before in
-    as-promised (c .no-journal3 .result)
+    subst (ScannedAs (c .no-journal3 .result))
     (sym (other-bytes _ (h .is-header .result) (z .is-zero .result) (h .is-header .ensures) (z .is-zero .ensures) (sym (b .both .ensures) ∙ not-true _ (c .before .if3 .taken))))
     (c .no-journal3 .ensures)
 
@@ -71,7 +72,7 @@ returns-4 c =
     let z = b .before in
     let h = z .before .before in
     let k = h .before in
-    as-promised (c .scan-events .result)
+    subst (ScannedAs (c .scan-events .result))
     (by-events _ (h .is-header .result) (z .is-zero .result) (h .is-header .ensures) (z .is-zero .ensures) (k .before .before .if1 .left) (k .if2 .left)
     (sym (b .both .ensures) ∙ not-false _ (c .before .if3 .left)))
     (c .scan-events .ensures)

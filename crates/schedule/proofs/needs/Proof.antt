@@ -1,4 +1,4 @@
--- `needs` meets its contract. Assumes nothing.
+-- `needs` meets its contract.
 use borrow.Author.Tests.{eq-eqb, ne-eqb}
 use Rattle.year.specs.Periods.{needs}
 use Rattle.schedule.proofs.needs.Statement.{statement}

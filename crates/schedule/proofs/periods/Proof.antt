@@ -1,4 +1,4 @@
--- `periods` meets its contract. Assumes nothing.
+-- `periods` meets its contract.
 use borrow.Author.Tests.{lt-ltb, le-ltb, le-leb, lt-leb}
 use Rattle.year.specs.Periods.{periods}
 use Rattle.schedule.proofs.periods.Statement.{statement}

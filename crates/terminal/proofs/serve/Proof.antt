@@ -1,5 +1,4 @@
 -- `serve` ends: the measure is the number of reads that are left.
--- Assumes nothing.
 use borrow.Author.Needs.{needs}
 use Rattle.terminal.proofs.serve.Statement.{statement}
 use Rattle.terminal.proofs.serve.Tie as tie

@@ -1,5 +1,5 @@
 -- `take_bytes` meets its contract. The invariant: what the rest of the piece makes of the line held and the journal is what the whole piece makes of those at
--- entry. The measure is the number of bytes that are left. Assumes nothing.
+-- entry. The measure is the number of bytes that are left.
 use mathlib.Core.Path.{_≡_, refl, sym, _∙_}
 use mathlib.Core.List.{List}
 use Prim.Native.Nat.{ℕ, _+_, _-_, _<_, _≤_}

@@ -1,4 +1,4 @@
--- `put_decimal` meets its contract. Assumes nothing.
+-- `put_decimal` meets its contract.
 use mathlib.Core.Path.{_≡_, _∙_}
 use native.Mathlib.Omega.{arith}
 use lib.ListN.{take}

@@ -1,4 +1,4 @@
--- `put_marks` meets its contract. Assumes nothing.
+-- `put_marks` meets its contract.
 use borrow.Author.Needs.{needs}
 use Rattle.text.proofs.put_marks.Statement.{statement}
 use Rattle.text.proofs.put_marks.Tie as tie

@@ -1,4 +1,4 @@
--- `put_size` meets its contract. Assumes nothing.
+-- `put_size` meets its contract.
 use native.Mathlib.Omega.{arith}
 use borrow.Author.Needs.{needs}
 use Rattle.text.proofs.put_size.Statement.{statement}

@@ -1,4 +1,4 @@
--- `calling::digest` meets its contract. Assumes nothing.
+-- `calling::digest` meets its contract.
 use Prim.Native.Nat.{_-_, _≤_}
 use native.Mathlib.Omega.{arith}
 use lib.ListN.{length}

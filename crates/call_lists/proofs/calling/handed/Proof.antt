@@ -1,4 +1,4 @@
--- `calling::handed` meets its contract. Assumes nothing.
+-- `calling::handed` meets its contract.
 use native.Mathlib.Omega.{arith}
 use lib.ListN.{length-take}
 use borrow.Author.Needs.{needs}

@@ -1,4 +1,4 @@
--- `calling::strip` meets its contract. Assumes nothing.
+-- `calling::strip` meets its contract.
 use native.Mathlib.Omega.{arith}
 use lib.ListN.{length-take}
 use borrow.Author.Needs.{needs}

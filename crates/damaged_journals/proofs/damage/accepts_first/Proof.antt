@@ -1,4 +1,4 @@
--- `damage::accepts_first` meets its contract. Assumes nothing.
+-- `damage::accepts_first` meets its contract.
 use native.Mathlib.Omega.{arith}
 use lib.ListN.{length-take}
 use borrow.Author.Needs.{needs}

@@ -1,4 +1,4 @@
--- `damage::bytes` meets its contract. The invariant: the journal keeps its length. Assumes nothing.
+-- `damage::bytes` meets its contract. The invariant: the journal keeps its length.
 use mathlib.Core.Path.{_≡_}
 use Prim.Native.Nat.{_-_}
 use native.Mathlib.Omega.{arith}

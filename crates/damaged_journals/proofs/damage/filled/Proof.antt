@@ -1,4 +1,4 @@
--- `damage::filled` meets its contract. The invariant: v is at most 256. Assumes nothing.
+-- `damage::filled` meets its contract. The invariant: v is at most 256.
 use Prim.Native.Nat.{_-_, _≤_}
 use native.Mathlib.Omega.{arith}
 use Rattle.damaged_journals.proofs.damage.filled.Statement.{statement}

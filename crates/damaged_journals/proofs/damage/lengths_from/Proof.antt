@@ -1,4 +1,4 @@
--- `damage::lengths_from` meets its contract. The invariant repeats what is required. Assumes nothing.
+-- `damage::lengths_from` meets its contract. The invariant repeats what is required.
 use mathlib.Core.Path.{_≡_}
 use Prim.Native.Nat.{_-_, _≤_}
 use native.Mathlib.Omega.{arith}

@@ -1,4 +1,4 @@
--- `rewriting::append_first` meets its contract. Assumes nothing.
+-- `rewriting::append_first` meets its contract.
 use borrow.Author.Needs.{needs}
 use Rattle.damaged_journals.proofs.Fitting.{event-fits}
 use Rattle.damaged_journals.proofs.rewriting.append_first.Statement.{statement}

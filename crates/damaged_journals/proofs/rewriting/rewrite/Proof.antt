@@ -1,4 +1,4 @@
--- `rewriting::rewrite` meets its contract. The invariant: both buffers keep their lengths. Assumes nothing.
+-- `rewriting::rewrite` meets its contract. The invariant: both buffers keep their lengths.
 use mathlib.Core.Path.{_≡_}
 use Prim.Native.Nat.{_-_, _≤_}
 use native.Mathlib.Omega.{arith}

@@ -5,7 +5,7 @@ use native.Mathlib.Omega.{arith}
 use lib.ListN.{length, drop}
 use borrow.Author.Tests.{not-true}
 use Rattle.buffers.proofs.Lists.{every-stop, every-go, every-end}
-use Rattle.buffers.proofs.Tests.{not-false}
+use Rattle.conditions.proofs.Tests.{not-false}
 use Rattle.rounding.specs.Result.{readingInRange}
 use Rattle.reference.specs.Refusals.{allInRange}
 use borrow.Author.Needs.{needs}

@@ -1,4 +1,4 @@
--- `rework::add_at` meets its contract. Assumes nothing.
+-- `rework::add_at` meets its contract.
 use Prim.Native.Nat.{_+_, _≤_}
 use native.Mathlib.Numerals.{add-one}
 use native.Mathlib.Omega.{arith}

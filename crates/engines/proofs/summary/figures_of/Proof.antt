@@ -1,4 +1,4 @@
--- `summary::figures_of` meets its contract. Assumes nothing.
+-- `summary::figures_of` meets its contract.
 use mathlib.Core.Path.{ap, _∙_}
 use Rattle.statistics.specs.declared.SampleSize.{SampleSize}
 use Rattle.year.specs.Status.{figures}

@@ -1,4 +1,4 @@
--- `summary::size_of` meets its contract. Assumes nothing.
+-- `summary::size_of` meets its contract.
 use mathlib.Core.Path.{_∙_}
 use Rattle.figures.proofs.OneMore.{running-size}
 use Rattle.engines.proofs.Shown.{size-shown}

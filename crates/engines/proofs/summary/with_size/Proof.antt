@@ -1,4 +1,4 @@
--- `summary::with_size` meets its contract. Assumes nothing.
+-- `summary::with_size` meets its contract.
 use Rattle.engines.proofs.Shown.{shown}
 use Rattle.engines.proofs.summary.with_size.Statement.{statement}
 use Rattle.engines.proofs.summary.with_size.Tie as tie

@@ -1,4 +1,4 @@
--- `events::after` meets its contract. Assumes nothing.
+-- `events::after` meets its contract.
 use Rattle.progress.proofs.Steps.{amended, next-period, declared}
 use borrow.Author.Needs.{needs}
 use Rattle.progress.proofs.events.after.Statement.{statement}

@@ -1,4 +1,4 @@
--- `events::start` meets its contract. Assumes nothing.
+-- `events::start` meets its contract.
 use Rattle.progress.proofs.Steps.{started}
 use borrow.Author.Needs.{needs}
 use Rattle.progress.proofs.events.start.Statement.{statement}

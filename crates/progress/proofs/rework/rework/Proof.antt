@@ -1,4 +1,4 @@
--- `rework::rework` meets its contract. Assumes nothing.
+-- `rework::rework` meets its contract.
 use Rattle.year.specs.Setup.{Hcnox, Co}
 use Rattle.engines.proofs.Arrays.{columns-fit, reworked}
 use Rattle.progress.proofs.rework.rework.Statement.{statement}

@@ -1,4 +1,4 @@
--- `digits_end` meets its contract. The invariant: the digits at `at` end where those at i end. The measure is the rest of the line. Assumes nothing.
+-- `digits_end` meets its contract. The invariant: the digits at `at` end where those at i end. The measure is the rest of the line.
 use mathlib.Core.Path.{_≡_, refl, sym, _∙_}
 use Prim.Native.Nat.{_≤_, _+_, _-_}
 use native.Mathlib.Omega.{arith}

@@ -1,5 +1,4 @@
 -- `digits_value` meets its contract. The invariant: the digits from i on, after those that make v, spell the whole number. The measure is the digits left.
--- Assumes nothing.
 use mathlib.Core.Path.{_≡_, refl, sym, _∙_}
 use mathlib.Core.Bool.{true}
 use mathlib.Core.List.{List}

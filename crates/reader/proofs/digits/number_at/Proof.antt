@@ -1,4 +1,4 @@
--- `number_at` meets its contract. Assumes nothing.
+-- `number_at` meets its contract.
 use mathlib.Core.Path.{_≡_, sym, _∙_}
 use Prim.Native.Nat.{_+_, _-_}
 use native.Mathlib.Omega.{arith}

@@ -1,4 +1,4 @@
--- `numbers::read_numbers` meets its contract. Assumes nothing.
+-- `numbers::read_numbers` meets its contract.
 use mathlib.Core.Path.{_≡_}
 use Prim.Native.Nat.{_-_, _≤_, _<_}
 use native.Mathlib.Omega.{arith}

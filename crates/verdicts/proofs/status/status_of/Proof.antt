@@ -1,4 +1,4 @@
--- `status::status_of` meets its contract. Assumes nothing.
+-- `status::status_of` meets its contract.
 use Rattle.year.specs.Setup.{Hcnox, Co}
 use Rattle.year.specs.Replay.{history}
 use Rattle.engines.specs.Engines.{tested}

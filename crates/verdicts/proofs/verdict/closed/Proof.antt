@@ -1,19 +1,19 @@
--- `verdict::closed` meets its contract. Assumes nothing.
+-- `verdict::closed` meets its contract.
 use mathlib.Core.Path.{_≡_, sym}
 use mathlib.Core.Bool.{_||_}
 use Rattle.year.specs.Setup.{Hcnox, Co}
 use Rattle.year.specs.Admissible.{closed}
 use Rattle.year.proofs.Closed.{closed-is}
 use Rattle.progress.specs.declared.Progress.{Progress}
-use Rattle.progress.specs.State.{shown, Consistent}
+use Rattle.progress.specs.State.{progressOf, Consistent}
 use Rattle.progress.proofs.Carried.{failed-is}
 use borrow.Author.Needs.{needs}
 use Rattle.verdicts.proofs.verdict.closed.Statement.{statement}
 use Rattle.verdicts.proofs.verdict.closed.Tie as tie
 
 -- a year is closed by its declaration or by a failure that the figures carry
-by-flags : (p : Progress) → Consistent p → (p .declared || (p .hcnox .failed || p .co .failed)) ≡ closed (shown p)
-by-flags p c = rw (failed-is p c 1024 Hcnox (p .hcnox) (c .figures .hcnox), failed-is p c 1024 Co (p .co) (c .figures .co)) (sym (closed-is (shown p)))
+by-flags : (p : Progress) → Consistent p → (p .declared || (p .hcnox .failed || p .co .failed)) ≡ closed (progressOf p)
+by-flags p c = rw (failed-is p c 1024 Hcnox (p .hcnox) (c .figures .hcnox), failed-is p c 1024 Co (p .co) (c .figures .co)) (sym (closed-is (progressOf p)))
 
 either-requires : tie.Need-either-requires
 either-requires c κs = search needs

@@ -1,4 +1,4 @@
--- `verdict::is_short` meets its contract. Assumes nothing.
+-- `verdict::is_short` meets its contract.
 use borrow.Author.Needs.{needs}
 use Rattle.verdicts.proofs.verdict.is_short.Statement.{statement}
 use Rattle.verdicts.proofs.verdict.is_short.Tie as tie

@@ -1,4 +1,4 @@
--- `verdict::verdict` meets its contract. Assumes nothing.
+-- `verdict::verdict` meets its contract.
 use borrow.Author.Needs.{needs}
 use Rattle.verdicts.proofs.verdict.verdict.Statement.{statement}
 use Rattle.verdicts.proofs.verdict.verdict.Tie as tie

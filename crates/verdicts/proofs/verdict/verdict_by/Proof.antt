@@ -1,4 +1,4 @@
--- `verdict::verdict_by` meets its contract. Assumes nothing.
+-- `verdict::verdict_by` meets its contract.
 use Rattle.year.specs.Setup.{Hcnox, Co}
 use Rattle.year.specs.Replay.{history}
 use Rattle.year.specs.Verdict.{verdict}

@@ -1,0 +1,3 @@
+pub mod Cases
+pub mod Tests
+pub mod Rows

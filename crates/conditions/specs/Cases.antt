@@ -1,0 +1,23 @@
+-- Worked cases of ranges and of tables of rows.
+use mathlib.Core.Path.{_≡_}
+use mathlib.Core.Bool.{true, false}
+use mathlib.Core.List.{[], _∷_}
+use Rattle.conditions.specs.Ranges.{within, distance}
+use Rattle.conditions.specs.Rows.{Row, first, before, from, applies}
+
+pub record Cases : Type 0 where
+  -- the first row that applies is taken, though a later one applies too; where none applies, the number given
+  pub firstOfTwo : first ((false, 3) ∷ (true, 4) ∷ (true, 5) ∷ []) 0 ≡ 4
+  pub firstOfNone : first ((false, 3) ∷ (false, 4) ∷ []) 1 ≡ 1
+  pub laterApplies : applies ((false, 3) ∷ (true, 4) ∷ (true, 5) ∷ []) 5 ≡ true
+  -- both ends of a range are in it
+  pub lowEnd : within 10 20000 10 ≡ true
+  pub highEnd : within 10 20000 20000 ≡ true
+  pub belowLow : within 10 20000 9 ≡ false
+  pub aboveHigh : within 10 20000 20001 ≡ false
+  -- a distance is the same either way
+  pub distanceUp : distance 3 5 ≡ 2
+  pub distanceDown : distance 5 3 ≡ 2
+  -- the parts of a table by the number of a row
+  pub beforeFive : before 5 ((false, 3) ∷ (true, 5) ∷ (true, 4) ∷ []) ≡ (false, 3) ∷ []
+  pub fromFive : from 5 ((false, 3) ∷ (true, 5) ∷ (true, 4) ∷ []) ≡ (true, 5) ∷ (true, 4) ∷ []

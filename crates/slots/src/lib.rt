@@ -1,0 +1,104 @@
+// The events of a journal's slots, entered one after another.
+ghost use mathlib.Core.Path.{_≡_};
+ghost use mathlib.Core.Bool.{true, not};
+ghost use Prim.Native.Nat.{_≤_};
+ghost use lib.ListN.{length};
+ghost use Rattle.year.specs.Model.{NoSetup, noSetup};
+ghost use Rattle.journal.specs.Read.{readJournal};
+ghost use Rattle.progress.specs.State.{progressOf, Consistent};
+ghost use Rattle.slots.specs.Scanned.{replayed, ScannedAs, Entered, entered};
+use admission::is_admissible;
+use buffers::parts::is_zero;
+use conditions::both;
+use decoder::event_at;
+use decoder::is_header;
+use decoder::is_slot;
+use decoder::setup_in;
+use figures::add;
+use progress::Progress;
+use progress::events::start;
+use rounding::Factor;
+use schedule::setup_in_range;
+use year::Event;
+use year::Factors;
+use year::Pair;
+use year::Setup;
+
+// Whether a buffer is an accepted journal, and the state of the year that it holds; of a buffer that is not, the state of a setup of zeros.
+pub struct Scanned {
+    pub accepted: bool,
+    pub progress: Progress,
+}
+
+// The answer for a buffer that is no accepted journal. No journal holds a setup of zeros, which is out of range.
+pub fn no_journal() -> Scanned
+    ensures { λ r. ⌜ ScannedAs r NoSetup ⌝ }
+{
+    let none = Factor { kind: 0, value: 0 };
+    let setup = Setup {
+        volume: 0,
+        days: 0,
+        standards: Pair { hcnox: 0, co: 0 },
+        factors: Factors {
+            hcnox: none,
+            co: none,
+        },
+    };
+    Scanned {
+        accepted: false,
+        progress: start(setup),
+    }
+}
+
+// The events of the slots entered one after another, from the state of a setup alone. It is `after` of the crate progress for each of them, its arms in the
+// same order, but the state is changed in place and its engines stand apart: to hand the whole on by value at every event costs more than the work. A change of one
+// is a change of both.
+pub fn enter_slots(journal: &[u8], count: usize, first: Progress) -> Scanned
+    requires { ⌜ (length (now journal) ≡ 544) × (count ≤ 64) × Entered (now journal) 0 first ⌝ }
+    ensures { λ r. ⌜ ScannedAs r (entered (now (journal .entry)) count) ⌝ }
+{
+    let mut p = first;
+    let mut engines = first.engines;
+    let mut j = 0;
+    while j < count {
+        let at = 32 + 8 * j;
+        let e = event_at(&journal[at..]);
+        let mut whole = p;
+        whole.engines = engines;
+        if !both(is_slot(&journal[at..]), is_admissible(whole, e)) {
+            return no_journal();
+        }
+        j += 1;
+        p.stored += 1;
+        match e {
+            Event::Engine {
+                number,
+                results,
+                ..
+            } => {
+                let n = engines.count;
+                engines.count = n + 1;
+                engines.numbers[n] = number as u16;
+                engines.periods[n] = p.period as u8;
+                engines.hcnox_results[n] = results.hcnox as u16;
+                engines.hcnox_standards[n] = p.standards.hcnox as u16;
+                engines.co_results[n] = results.co as u16;
+                engines.co_standards[n] = p.standards.co as u16;
+                p.current += 1;
+                p.hcnox = add(p.hcnox, results.hcnox, p.standards.hcnox, 1024);
+                p.co = add(p.co, results.co, p.standards.co, 1024);
+            }
+            Event::Amendment(standards) => p.standards = standards,
+            Event::NextPeriod => {
+                p.period += 1;
+                p.current = 0;
+            }
+            Event::Declaration => p.declared = true,
+        }
+    }
+    p.engines = engines;
+    Scanned {
+        accepted: true,
+        progress: p,
+    }
+}
