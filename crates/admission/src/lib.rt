@@ -14,6 +14,8 @@ use schedule::standards_in_range;
 use verdicts::verdict::closed;
 use verdicts::verdict::is_short;
 use year::Event;
+use year::MOST_ENGINES;
+use year::MOST_EVENTS;
 use year::Pair;
 
 pub fn number_in_range(number: u32) -> bool
@@ -39,7 +41,10 @@ fn engine_fits(p: Progress, number: u32, readings: u32, results: Pair) -> bool
     let engines = p.engines;
     let named = both(number_in_range(number), !is_tested(engines, number));
     let read = both(named, count_in_range(readings));
-    both(both(read, results_in_range(results)), engines.count < 40)
+    both(
+        both(read, results_in_range(results)),
+        engines.count < MOST_ENGINES,
+    )
 }
 
 // The next period: there is one, and the current one is not short.
@@ -73,5 +78,5 @@ pub fn is_admissible(p: Progress, e: Event) -> bool
     requires { ⌜ Consistent p ⌝ }
     ensures { λ r. ⌜ r ≡ admissible (progressOf p) e ⌝ }
 {
-    both(both(!closed(p), p.stored < 64), event_fits(p, e))
+    both(both(!closed(p), p.stored < MOST_EVENTS), event_fits(p, e))
 }

@@ -10,6 +10,8 @@ use dispatch::carry_out;
 use parser::numbers::Numbers;
 use parser::numbers::read_numbers;
 use parser::request::requested;
+use protocol::LINE_SIZE;
+use protocol::REPLY_SIZE;
 use replies::write_refusal;
 
 // A line of 1 to 64 bytes: its letter and its numbers are read, and make a call.
@@ -30,13 +32,13 @@ fn reply_short(journal: &mut [u8], line: &[u8], out: &mut [u8]) -> usize
 
 // The reply to a line, at the front of the output, and how many bytes it has: always fewer than the output. A line of more than 64 bytes is refused by 1, and an
 // empty one, which has no letter, by 2.
-pub fn reply(journal: &mut [u8], line: &[u8], out: &mut [u8; 96]) -> usize
+pub fn reply(journal: &mut [u8], line: &[u8], out: &mut [u8; REPLY_SIZE]) -> usize
     ensures { λ r. ⌜ r ≡ length (replyTo (now (line .entry)) (now (journal .entry))) ⌝ }
     ensures { λ _. ⌜ now (out .exit) ≡ put (now (out .entry)) 0 (replyTo (now (line .entry)) (now (journal .entry))) ⌝ }
     ensures { λ _. ⌜ now (journal .exit) ≡ journalAfterLine (now (line .entry)) (now (journal .entry)) ⌝ }
     ensures { λ r. ⌜ (r < 96) × (length (now (out .exit)) ≡ 96) ⌝ }
 {
-    if 64 < line.len() {
+    if LINE_SIZE < line.len() {
         return write_refusal(1, out);
     }
     if line.len() == 0 {

@@ -3,6 +3,7 @@ ghost use mathlib.Core.Path.{_≡_};
 ghost use lib.ListN.{length, take};
 ghost use Rattle.protocol.specs.Console.{held};
 ghost use Rattle.console.specs.Keys.{bufferWith};
+use protocol::HELD_SIZE;
 
 // The next byte of a line of which `count` bytes are held: how many are held then. A line over 64 bytes is refused, whatever its other bytes are, so none is held
 // after the 65th.
@@ -12,8 +13,8 @@ pub fn hold(line: &mut [u8], count: usize, byte: u8) -> usize
     ensures { λ _. ⌜ now (line .exit) ≡ bufferWith (now (line .entry)) count byte ⌝ }
     ensures { λ r. ⌜ r ≡ length (held (take count (now (line .entry))) byte) ⌝ }
 {
-    if 65 <= count {
-        return 65;
+    if HELD_SIZE <= count {
+        return HELD_SIZE;
     }
     line[count] = byte;
     count + 1

@@ -11,6 +11,8 @@ ghost use Rattle.protocol.specs.Reply.{replyTo, journalAfterLine};
 ghost use Rattle.console.specs.Keys.{Shown, bufferAt};
 use crate::holding::hold;
 use commands::reply;
+use protocol::HELD_SIZE;
+use protocol::REPLY_SIZE;
 
 // Of the bytes said to be held, those that the buffer has: nothing is asked of their number.
 fn least(a: usize, b: usize) -> usize
@@ -23,7 +25,7 @@ fn least(a: usize, b: usize) -> usize
 }
 
 // The reply to the first bytes of a buffer as a line, and a newline.
-fn answer(journal: &mut [u8], buffer: &[u8], held: usize, out: &mut [u8; 96]) -> usize
+fn answer(journal: &mut [u8], buffer: &[u8], held: usize, out: &mut [u8; REPLY_SIZE]) -> usize
     ensures { λ r. ⌜ Shown (replyTo (take held (now (buffer .entry))) (now (journal .entry)) ++ (byte "\n" ∷ [])) (now (out .entry)) (now (out .exit)) r ⌝ }
     ensures { λ _. ⌜ now (journal .exit) ≡ journalAfterLine (take held (now (buffer .entry))) (now (journal .entry)) ⌝ }
 {
@@ -35,10 +37,10 @@ fn answer(journal: &mut [u8], buffer: &[u8], held: usize, out: &mut [u8; 96]) ->
 // A byte of the input, after those held of its line at the front of the buffer: how many bytes of the output are to be printed.
 pub fn key(
     journal: &mut [u8],
-    buffer: &mut [u8; 65],
+    buffer: &mut [u8; HELD_SIZE],
     held: &mut usize,
     byte: u8,
-    out: &mut [u8; 96],
+    out: &mut [u8; REPLY_SIZE],
 ) -> usize
     ensures { λ r. ⌜ Shown (shownAt byte (take (now (held .entry)) (now (buffer .entry))) (now (journal .entry))) (now (out .entry)) (now (out .exit)) r ⌝ }
     ensures { λ _. ⌜ take (now (held .exit)) (now (buffer .exit)) ≡ heldAt byte (take (now (held .entry)) (now (buffer .entry))) ⌝ }
@@ -56,7 +58,12 @@ pub fn key(
 }
 
 // The end of the input: what is held is a last line without newline, if any byte is.
-pub fn end_input(journal: &mut [u8], buffer: &[u8], held: usize, out: &mut [u8; 96]) -> usize
+pub fn end_input(
+    journal: &mut [u8],
+    buffer: &[u8],
+    held: usize,
+    out: &mut [u8; REPLY_SIZE],
+) -> usize
     ensures { λ r. ⌜ Shown (shownAtEnd (take held (now (buffer .entry))) (now (journal .entry))) (now (out .entry)) (now (out .exit)) r ⌝ }
     ensures { λ _. ⌜ now (journal .exit) ≡ journalAtEnd (take held (now (buffer .entry))) (now (journal .entry)) ⌝ }
 {

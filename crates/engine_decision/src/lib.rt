@@ -23,6 +23,7 @@ use rounding::result_in_range;
 use rounding::result_of;
 use slots::Scanned;
 use year::Event;
+use year::MOST_ENGINES;
 use year::Pair;
 
 // 10, 11 and 12, which are asked before the results are worked.
@@ -48,7 +49,7 @@ fn worked_refusal(hcnox: u64, co: u64, count: usize) -> u8
     ensures { λ r. ⌜ r ≡ first (workedRows hcnox co count) 0 ⌝ }
 {
     let results = both(result_in_range(hcnox), result_in_range(co));
-    row(!results, 13, row(40 <= count, 14, 0))
+    row(!results, 13, row(MOST_ENGINES <= count, 14, 0))
 }
 
 // On a year that none of the rows that every entry may meet stands against.

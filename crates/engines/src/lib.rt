@@ -4,14 +4,16 @@ pub mod rework;
 pub mod store;
 pub mod summary;
 
+use year::MOST_ENGINES;
+
 // Each engine's number and period, and for each pollutant its result and the standard in force when it was entered. Places from `count` on are not in use.
 // The elements are as narrow as their ranges allow, since the whole is carried by value from event to event.
 pub struct Engines {
     pub count: usize,
-    pub numbers: [u16; 40],
-    pub periods: [u8; 40],
-    pub hcnox_results: [u16; 40],
-    pub hcnox_standards: [u16; 40],
-    pub co_results: [u16; 40],
-    pub co_standards: [u16; 40],
+    pub numbers: [u16; MOST_ENGINES],
+    pub periods: [u8; MOST_ENGINES],
+    pub hcnox_results: [u16; MOST_ENGINES],
+    pub hcnox_standards: [u16; MOST_ENGINES],
+    pub co_results: [u16; MOST_ENGINES],
+    pub co_standards: [u16; MOST_ENGINES],
 }

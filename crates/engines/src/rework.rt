@@ -7,9 +7,10 @@ ghost use Rattle.engines.specs.Engines.{testsTo, ColumnsInRange};
 use figures::Running;
 use figures::add;
 use figures::start;
+use year::MOST_ENGINES;
 
 // The number at a place.
-fn number_at(numbers: [u16; 40], i: usize) -> u32
+fn number_at(numbers: [u16; MOST_ENGINES], i: usize) -> u32
     requires { ⌜ i < 40 ⌝ }
     ensures { λ r. ⌜ r ≡ getD numbers i 0 ⌝ }
 {
@@ -19,8 +20,8 @@ fn number_at(numbers: [u16; 40], i: usize) -> u32
 // The figures of the engines before a place, with the engine at that place.
 fn add_at(
     f: Running,
-    results: [u16; 40],
-    standards: [u16; 40],
+    results: [u16; MOST_ENGINES],
+    standards: [u16; MOST_ENGINES],
     i: usize,
     resolution: u64,
 ) -> Running
@@ -36,8 +37,8 @@ fn add_at(
 }
 
 pub fn running_at(
-    results: [u16; 40],
-    standards: [u16; 40],
+    results: [u16; MOST_ENGINES],
+    standards: [u16; MOST_ENGINES],
     count: usize,
     resolution: u64,
 ) -> Running

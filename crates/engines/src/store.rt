@@ -3,6 +3,7 @@ ghost use mathlib.Core.Path.{_≡_};
 ghost use mathlib.Core.List.{[], _∷_};
 ghost use Rattle.engines.specs.Engines.{tested, EngineInRange};
 use crate::Engines;
+use year::MOST_ENGINES;
 use year::Pair;
 
 // No engine.
@@ -11,12 +12,12 @@ pub fn no_engines() -> Engines
 {
     Engines {
         count: 0,
-        numbers: [0; 40],
-        periods: [0; 40],
-        hcnox_results: [0; 40],
-        hcnox_standards: [0; 40],
-        co_results: [0; 40],
-        co_standards: [0; 40],
+        numbers: [0; MOST_ENGINES],
+        periods: [0; MOST_ENGINES],
+        hcnox_results: [0; MOST_ENGINES],
+        hcnox_standards: [0; MOST_ENGINES],
+        co_results: [0; MOST_ENGINES],
+        co_standards: [0; MOST_ENGINES],
     }
 }
 

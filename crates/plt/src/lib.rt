@@ -8,6 +8,7 @@ ghost use Rattle.exports.specs.Exports.{replyCount, replyLeft, lineLeft, refusa
 use answers::put_answer;
 use commands::reply;
 use entries::enter_engine;
+use protocol::REPLY_SIZE;
 use queries::read_status;
 use queries::write_marks;
 use text::put_bytes;
@@ -20,10 +21,10 @@ pub extern "C" fn plt_command(journal: &mut [u8], line: &[u8], out: &mut [u8]) -
     ensures { λ _. ⌜ now (journal .exit) ≡ lineLeft (now (line .entry)) (now (journal .entry)) (now (out .entry)) ⌝ }
     ensures { λ r. ⌜ r < 96 ⌝ }
 {
-    if out.len() < 96 {
+    if out.len() < REPLY_SIZE {
         return 0;
     }
-    let mut text = [0u8; 96];
+    let mut text = [0u8; REPLY_SIZE];
     let count = reply(journal, line, &mut text);
     put_bytes(&text[..count], out, 0)
 }

@@ -18,14 +18,20 @@ use figures::limits::action_limit;
 use figures::limits::next_cumsum;
 use figures::marking::compare;
 use figures::marking::mark_byte;
+use year::MOST_ENGINES;
 
 // The marks of one pollutant's engines as bytes, at any resolution. Only the sums and C go on from engine to engine: a mark needs no more, and all figures would
 // be copied by value at each engine.
-fn mark_column(results: [u16; 40], standards: [u16; 40], count: usize, resolution: u64) -> [u8; 40]
+fn mark_column(
+    results: [u16; MOST_ENGINES],
+    standards: [u16; MOST_ENGINES],
+    count: usize,
+    resolution: u64,
+) -> [u8; MOST_ENGINES]
     requires { ⌜ ColumnsInRange results standards count resolution ⌝ }
     ensures { λ r. ⌜ MarkedTo resolution results standards count r ⌝ }
 {
-    let mut column = [b'-'; 40];
+    let mut column = [b'-'; MOST_ENGINES];
     let mut sums = no_sums();
     let mut cumsum = Interval { low: 0, high: 0 };
     let mut i = 0;

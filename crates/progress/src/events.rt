@@ -6,6 +6,7 @@ ghost use Rattle.year.specs.Replay.{start, after};
 ghost use Rattle.year.specs.Admissible.{admissible};
 ghost use Rattle.progress.specs.State.{progressOf, Consistent};
 use crate::Progress;
+use cumsum::RESOLUTION;
 use engines::store::no_engines;
 use engines::store::with_engine;
 use year::Event;
@@ -50,8 +51,8 @@ fn engine(p: Progress, number: u32, readings: u32, results: Pair) -> Progress
         stored: p.stored + 1,
         declared: p.declared,
         current: p.current + 1,
-        hcnox: figures::add(hcnox, results.hcnox, standards.hcnox, 1024),
-        co: figures::add(co, results.co, standards.co, 1024),
+        hcnox: figures::add(hcnox, results.hcnox, standards.hcnox, RESOLUTION),
+        co: figures::add(co, results.co, standards.co, RESOLUTION),
     }
 }
 

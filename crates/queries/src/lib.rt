@@ -6,6 +6,7 @@ ghost use lib.ListN.{length};
 ghost use denote.Ref.{ptr};
 ghost use Rattle.reference.specs.Call.{Marks, ReadStatus, Write, Ask};
 ghost use Rattle.reference.specs.Answers.{refusalOn, answer, outcomeOf, outcome, outAfter, outPart, outputAnswer};
+use cumsum::RESOLUTION;
 use printing::print_marks;
 use reference::Answer;
 use reference::OutputAnswer;
@@ -38,7 +39,7 @@ pub fn write_marks(journal: &[u8], out: &mut [u8]) -> OutputAnswer
         return OutputAnswer { refusal, length: 0 };
     }
     let engines = scanned.progress.engines;
-    print_marks(engines, 1024, out);
+    print_marks(engines, RESOLUTION, out);
     OutputAnswer {
         refusal: 0,
         length: 2 * engines.count,

@@ -13,6 +13,7 @@ use schedule::production_in_range;
 use schedule::standards_in_range;
 use slots::Scanned;
 use verdicts::verdict::closed;
+use year::MOST_EVENTS;
 use year::Setup;
 
 // 3, 4, 5 and 6. Setup asks nothing of what the buffer holds.
@@ -31,11 +32,8 @@ pub fn status_refusal(journal: &[u8], scanned: Scanned) -> u8
     requires { ⌜ ScannedAs scanned (readJournal (now journal)) ⌝ }
     ensures { λ r. ⌜ r ≡ refusalOn (Ask ReadStatus) (now (journal .entry)) ⌝ }
 {
-    row(
-        journal.len() != JOURNAL_SIZE,
-        3,
-        row(!scanned.accepted, 7, 0),
-    )
+    let unread = row(!scanned.accepted, 7, 0);
+    row(journal.len() != JOURNAL_SIZE, 3, unread)
 }
 
 // 3, 7 and 16, for an output of this size.
@@ -66,5 +64,5 @@ pub fn entry_refusal(journal: &[u8], unfit: bool, scanned: Scanned) -> u8
         return 7;
     }
     let p = scanned.progress;
-    row(closed(p), 8, row(64 <= p.stored, 9, 0))
+    row(closed(p), 8, row(MOST_EVENTS <= p.stored, 9, 0))
 }

@@ -9,6 +9,7 @@ use conditions::both;
 use decoder::is_header;
 use decoder::setup_in;
 use journal::JOURNAL_SIZE;
+use journal::SLOTS;
 use progress::events::start;
 use schedule::setup_in_range;
 use slots::Scanned;
@@ -35,7 +36,7 @@ pub fn scan_journal(journal: &[u8]) -> Scanned
         return no_journal();
     }
     let count = journal[24] as usize;
-    if 64 < count {
+    if SLOTS < count {
         return no_journal();
     }
     let unused = 32 + 8 * count;

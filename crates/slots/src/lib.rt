@@ -10,6 +10,7 @@ ghost use Rattle.slots.specs.Scanned.{replayed, ScannedAs, Entered, ente
 use admission::is_admissible;
 use buffers::parts::is_zero;
 use conditions::both;
+use cumsum::RESOLUTION;
 use decoder::event_at;
 use decoder::is_header;
 use decoder::is_slot;
@@ -85,8 +86,8 @@ pub fn enter_slots(journal: &[u8], count: usize, first: Progress) -> Scanned
                 engines.co_results[n] = results.co as u16;
                 engines.co_standards[n] = p.standards.co as u16;
                 p.current += 1;
-                p.hcnox = add(p.hcnox, results.hcnox, p.standards.hcnox, 1024);
-                p.co = add(p.co, results.co, p.standards.co, 1024);
+                p.hcnox = add(p.hcnox, results.hcnox, p.standards.hcnox, RESOLUTION);
+                p.co = add(p.co, results.co, p.standards.co, RESOLUTION);
             }
             Event::Amendment(standards) => p.standards = standards,
             Event::NextPeriod => {

@@ -10,9 +10,12 @@ use console::key;
 use io::buffer;
 use io::count;
 use io::write_all;
+use journal::JOURNAL_SIZE;
 use libc::STDIN_FILENO;
 use libc::STDOUT_FILENO;
 use libc::read;
+use protocol::HELD_SIZE;
+use protocol::REPLY_SIZE;
 
 // After a piece of the input: more may come, it has ended, or nobody reads the output.
 enum Next {
@@ -22,16 +25,26 @@ enum Next {
 }
 
 // A byte of the input; whether what it shows was taken. A byte that ends no line shows nothing.
-fn take_byte(journal: &mut [u8; 544], line: &mut [u8; 65], held: &mut usize, byte: u8) -> bool
+fn take_byte(
+    journal: &mut [u8; JOURNAL_SIZE],
+    line: &mut [u8; HELD_SIZE],
+    held: &mut usize,
+    byte: u8,
+) -> bool
     ensures { λ _. ⌜ take (now (held .exit)) (now (line .exit)) ≡ heldAt byte (take (now (held .entry)) (now (line .entry))) ⌝ }
     ensures { λ _. ⌜ now (journal .exit) ≡ journalAt byte (take (now (held .entry)) (now (line .entry))) (now (journal .entry)) ⌝ }
 {
-    let mut out = [0u8; 96];
+    let mut out = [0u8; REPLY_SIZE];
     let n = key(journal, line, held, byte, &mut out);
     write_all(STDOUT_FILENO, &out[..n])
 }
 
-fn take_bytes(journal: &mut [u8; 544], line: &mut [u8; 65], held: &mut usize, piece: &[u8]) -> Next
+fn take_bytes(
+    journal: &mut [u8; JOURNAL_SIZE],
+    line: &mut [u8; HELD_SIZE],
+    held: &mut usize,
+    piece: &[u8],
+) -> Next
     ensures { λ r. ⌜ Taken r (now (piece .entry)) (take (now (held .entry)) (now (line .entry))) (now (journal .entry)) (take (now (held .exit)) (now (line .exit))) (now (journal .exit)) ⌝ }
 {
     let mut i: usize = 0;
@@ -45,7 +58,11 @@ fn take_bytes(journal: &mut [u8; 544], line: &mut [u8; 65], held: &mut usize, pi
 }
 
 // One read, of as many bytes as are there, so that a line is answered when it comes.
-fn take_piece(journal: &mut [u8; 544], line: &mut [u8; 65], held: &mut usize) -> Next {
+fn take_piece(
+    journal: &mut [u8; JOURNAL_SIZE],
+    line: &mut [u8; HELD_SIZE],
+    held: &mut usize,
+) -> Next {
     let mut space = buffer();
     let n = count(read(STDIN_FILENO, &mut space), &space);
     if n == 0 {
@@ -54,8 +71,8 @@ fn take_piece(journal: &mut [u8; 544], line: &mut [u8; 65], held: &mut usize) ->
     take_bytes(journal, line, held, &space[..n])
 }
 
-fn finish(journal: &mut [u8; 544], line: &[u8; 65], held: usize) {
-    let mut out = [0u8; 96];
+fn finish(journal: &mut [u8; JOURNAL_SIZE], line: &[u8; HELD_SIZE], held: usize) {
+    let mut out = [0u8; REPLY_SIZE];
     let n = end_input(journal, line, held, &mut out);
     write_all(STDOUT_FILENO, &out[..n]);
 }
@@ -63,8 +80,8 @@ fn finish(journal: &mut [u8; 544], line: &[u8; 65], held: usize) {
 // Answers every line until the input ends or the output is closed. A proved loop has to end, and nothing says that an input does: the loop counts its reads down,
 // from a number that no input uses up.
 pub fn serve() {
-    let mut journal = [0u8; 544];
-    let mut line = [0u8; 65];
+    let mut journal = [0u8; JOURNAL_SIZE];
+    let mut line = [0u8; HELD_SIZE];
     let mut held: usize = 0;
     let mut reads = u64::MAX;
     while reads > 0 {

@@ -5,6 +5,11 @@ use rounding::Factor;
 use statistics::Deviation;
 use statistics::SampleSize;
 
+// "At most 40 engines"; "number of events, 0 to 64".
+pub const MOST_ENGINES: usize = 40;
+
+pub const MOST_EVENTS: u32 = 64;
+
 // A number for each pollutant: results, or standards, in result units.
 pub struct Pair {
     pub hcnox: u32,
