@@ -8,7 +8,7 @@ Run from the repository's root. Forms of a citation:
   progress::events::after         an item of crates/progress/src/events.rt, or of lib.rt where no module is named
   decoder/code_kind_5             a must-fail edit; behind it in the same row, code_version_0 alone is an edit of that crate too
   tests/years.sh, progress/proofs a file or a folder, from the root, from crates/, in any crate, or from the document's folder
-  calls/promise_..                anything that begins so
+  entries/promise_..              anything that begins so
   answer                          a crate, a name in definitions, laws or code, an edit or a file; so is each word of three letters or more in a longer text
 """
 import os
@@ -193,11 +193,21 @@ def table_misses(tree):
             yield 'README.md: the table of the crates does not have `%s`' % name
 
 
+def misplaced(tree, document, text):
+    """`name` in `crate/specs/File`, or in `crate/proofs`: the name is there."""
+    for found in re.finditer(r'`([\w-]+)` in\s+`(\w+/(?:specs|proofs)(?:/\w+)?)`', text):
+        name, place = found.groups()
+        if not any(name in source.names for path, source in tree.sources.items() if path.startswith('crates/' + place)):
+            line = text.count('\n', 0, found.start()) + 1
+            yield '%s:%d: `%s`: it is not in crates/%s%s' % (document, line, name, place, tree.elsewhere(name))
+
+
 def main():
     tree, checked = Tree(), 0
     messages = list(table_misses(tree))
     for document in DOCUMENTS:
         checker, text = Checker(tree, document), read(document)
+        messages += misplaced(tree, document, text)
         for found in re.finditer(r'`([^`]+)`|\]\(([^)]+)\)|\n(?=\n|\||- |\d+\. )', text):
             quoted, link = (' '.join((part or '').split()) for part in found.groups())
             wrong = checker.check(quoted) if quoted else checker.link(link) if link else None
