@@ -40,7 +40,7 @@ fn engine_fits(p: Progress, number: u32, readings: u32, results: Pair) -> bool
 {
     let engines = p.engines;
     let named = both(number_in_range(number), !is_tested(engines, number));
-    let read = both(named, count_in_range(readings));
+    let read = both(named, count_in_range(readings as usize));
     both(
         both(read, results_in_range(results)),
         engines.count < MOST_ENGINES,

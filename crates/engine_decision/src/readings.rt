@@ -2,6 +2,7 @@
 ghost use mathlib.Core.Path.{_≡_};
 ghost use Rattle.reference.specs.Refusals.{countsFit, allInRange, readingsFit};
 use conditions::both;
+use rounding::count_in_range;
 use rounding::reading_in_range;
 
 // As many readings for each pollutant, 1 to 3.
@@ -9,7 +10,7 @@ pub fn counts_fit(hcnox: &[u32], co: &[u32]) -> bool
     ensures { λ r. ⌜ r ≡ countsFit (record { hcnox = now (hcnox .entry); co = now (co .entry) }) ⌝ }
 {
     let n = hcnox.len();
-    both(n == co.len(), both(1 <= n, n <= 3))
+    both(n == co.len(), count_in_range(n))
 }
 
 // Every reading is in range.

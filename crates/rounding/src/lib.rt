@@ -4,6 +4,7 @@ ghost use mathlib.Core.List.{map};
 ghost use Prim.Native.Nat.{_^_, _≤_, _<_};
 ghost use lib.ListN.{length};
 ghost use Rattle.rounding.specs.Result.{nearestEven, rounded, sum, factored, resultOf, countInRange, readingInRange, factorInRange, resultInRange};
+use conditions::both;
 use conditions::within;
 
 // A deterioration factor of one pollutant. Kind 0 adds `value` thousandths of a result unit, kind 1 multiplies by `value` thousandths.
@@ -68,10 +69,10 @@ pub fn result_of(factor: Factor, readings: &[u32]) -> u64
 }
 
 // An engine has 1 to 3 readings for each pollutant.
-pub fn count_in_range(count: u32) -> bool
+pub fn count_in_range(count: usize) -> bool
     ensures { λ r. ⌜ r ≡ countInRange count ⌝ }
 {
-    within(1, 3, count)
+    both(1 <= count, count <= 3)
 }
 
 pub fn reading_in_range(reading: u32) -> bool
