@@ -23,8 +23,8 @@ use Rattle.progress.specs.declared.Progress.{Progress as State}
 use Rattle.progress.specs.State.{progressOf, Figured, Consistent}
 
 -- the state stands for this year, and is consistent
-abbrev pub Stands : State → Progress → Type 0
-Stands p y = (progressOf p ≡ y) × Consistent p
+abbrev pub Represents : State → Progress → Type 0
+Represents p y = (progressOf p ≡ y) × Consistent p
 
 -- the state before the first event
 abbrev first : Setup → Engines → Running → Running → State
@@ -57,17 +57,17 @@ changed p standards period declared current =
 module _ (p : State) (c : Consistent p) where
   -- a state that shows the year with one event more stands for it, if its period's engines are counted and its figures worked
   stepped : (e : Event) → admissible (progressOf p) e ≡ true → (s : State) → progressOf s ≡ after e (progressOf p)
-      → s .current ≡ testedIn (s .period) (tested (s .engines)) → Figured 1024 (s .engines) (s .hcnox) (s .co) → Stands s (after e (progressOf p))
+      → s .current ≡ testedIn (s .period) (tested (s .engines)) → Figured 1024 (s .engines) (s .hcnox) (s .co) → Represents s (after e (progressOf p))
   stepped e a s is n f = (is, record { inRange = subst InRange (sym is) (after-in-range e (progressOf p) (c .inRange) a); current = n; figures = f })
 
   pub amended : (t : Pair) → admissible (progressOf p) (Amendment t) ≡ true
-      → Stands (changed p t (p .period) (p .declared) (p .current)) (after (Amendment t) (progressOf p))
+      → Represents (changed p t (p .period) (p .declared) (p .current)) (after (Amendment t) (progressOf p))
   amended t a = stepped (Amendment t) a _ refl (c .current) (c .figures)
 
-  pub next-period : admissible (progressOf p) NextPeriod ≡ true → Stands (changed p (p .standards) (p .period + 1) (p .declared) 0) (after NextPeriod (progressOf p))
+  pub next-period : admissible (progressOf p) NextPeriod ≡ true → Represents (changed p (p .standards) (p .period + 1) (p .declared) 0) (after NextPeriod (progressOf p))
   next-period a = stepped NextPeriod a _ refl (sym (none-in-next (p .period) (tested (p .engines)) (c .inRange .periods))) (c .figures)
 
-  pub declared : admissible (progressOf p) Declaration ≡ true → Stands (changed p (p .standards) (p .period) true (p .current)) (after Declaration (progressOf p))
+  pub declared : admissible (progressOf p) Declaration ≡ true → Represents (changed p (p .standards) (p .period) true (p .current)) (after Declaration (progressOf p))
   declared a = stepped Declaration a _ refl (c .current) (c .figures)
 
   -- an engine, once it is among the tested and its results are added to the figures
@@ -76,7 +76,7 @@ module _ (p : State) (c : Consistent p) where
       → tested e ≡ record { number = number; results = results; standards = p .standards; period = p .period } ∷ tested (p .engines)
       → ((xs : List Test) → p .hcnox ≡ running 1024 xs → h ≡ running 1024 (record { result = results .hcnox; standard = p .standards .hcnox } ∷ xs))
       → ((xs : List Test) → p .co ≡ running 1024 xs → o ≡ running 1024 (record { result = results .co; standard = p .standards .co } ∷ xs))
-      → Stands
+      → Represents
       record {
         setup = p .setup;
         standards = p .standards;

@@ -12,7 +12,7 @@ use borrow.Author.Tests.{lt-ltb, leb-true, leb-false}
 use Rattle.ascii.specs.Text.{byte}
 use Rattle.protocol.specs.KeyLine.{Refuse, commandOf}
 use Rattle.protocol.specs.Reply.{replyTo, journalAfterLine}
-use Rattle.protocol.specs.Run.{before, linesOf, replies, journalAfterLines, printed}
+use Rattle.protocol.specs.Run.{beforeFirst, linesOf, replies, journalAfterLines, printed}
 use Rattle.protocol.specs.Console.{held, journalAtEnd, output, heldAfter, journalPast, Console}
 
 -- a line of more than 64 bytes is refused by 1, whatever they are
@@ -64,7 +64,7 @@ onto [] lines = lines
 onto (b ∷ bs) [] = (b ∷ bs) ∷ []
 onto (b ∷ bs) (line ∷ lines) = ((b ∷ bs) ++ line) ∷ lines
 
-onto-byte : (start : List ℕ) (b : ℕ) (lines : List (List ℕ)) → onto start (before b lines) ≡ onto (start ++ (b ∷ [])) lines
+onto-byte : (start : List ℕ) (b : ℕ) (lines : List (List ℕ)) → onto start (beforeFirst b lines) ≡ onto (start ++ (b ∷ [])) lines
 onto-byte [] b [] = refl
 onto-byte [] b (line ∷ lines) = refl
 onto-byte (x ∷ xs) b [] = refl

@@ -8,14 +8,14 @@ use Rattle.ascii.specs.Text.{byte}
 use Rattle.protocol.specs.Reply.{replyTo, journalAfterLine}
 
 -- a byte in front of the first line
-abbrev pub before : ℕ → List (List ℕ) → List (List ℕ)
-before b [] = (b ∷ []) ∷ []
-before b (line ∷ lines) = (b ∷ line) ∷ lines
+abbrev pub beforeFirst : ℕ → List (List ℕ) → List (List ℕ)
+beforeFirst b [] = (b ∷ []) ∷ []
+beforeFirst b (line ∷ lines) = (b ∷ line) ∷ lines
 
 -- the lines of an input: "then a newline, absent only at the end of the input"
 abbrev pub linesOf : List ℕ → List (List ℕ)
 linesOf [] = []
-linesOf (b ∷ bs) = cond (eqb b (byte "\n")) ([] ∷ linesOf bs) (before b (linesOf bs))
+linesOf (b ∷ bs) = cond (eqb b (byte "\n")) ([] ∷ linesOf bs) (beforeFirst b (linesOf bs))
 
 -- the replies to lines, each on the journal that the last one left
 abbrev pub replies : List ℕ → List (List ℕ) → List (List ℕ)

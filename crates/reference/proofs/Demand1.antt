@@ -20,7 +20,7 @@ use Rattle.year.specs.declared.Setup.{Setup}
 use Rattle.year.specs.declared.Event.{Event}
 use Rattle.year.specs.Replay.{replay}
 use Rattle.year.specs.Setup.{judged}
-use Rattle.year.specs.Status.{printed}
+use Rattle.year.specs.Status.{yearMarks}
 use Rattle.year.specs.Model.{Model, NoSetup, Year}
 use Rattle.year.proofs.Kept.{printed-length}
 use Rattle.journal.specs.Encode.{slotPlace, slotOf, append}
@@ -111,7 +111,7 @@ module _ (journal : List ℕ) (e : Event) (n : length journal ≡ 544) (room : s
 
 pub mark-bytes : (model : Model) → length (outBytes Marks model) ≡ 2 * statusOf model .n
 mark-bytes NoSetup = refl
-mark-bytes (Year s es) = length-map (printed 1024 (replay s es)) markByte ∙ printed-length judged 1024 (replay s es .tested)
+mark-bytes (Year s es) = length-map (yearMarks 1024 (replay s es)) markByte ∙ printed-length judged 1024 (replay s es .tested)
 
 pub out-fits : (form : Form) (journal : List ℕ) (size : ℕ) → refusalOn (Ask (Write form size)) journal ≡ 0 → length (outBytes form (readJournal journal)) ≤ size
 unfolding refusals

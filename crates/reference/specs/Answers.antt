@@ -9,7 +9,7 @@ use Rattle.conditions.specs.Rows.{Row}
 use Rattle.cumsum.specs.Marks.{markByte}
 use Rattle.year.specs.declared.Status.{Status}
 use Rattle.year.specs.Replay.{Progress, replay}
-use Rattle.year.specs.Status.{blank, status, printed}
+use Rattle.year.specs.Status.{blank, status, yearMarks}
 use Rattle.year.specs.Model.{Model, NoSetup, Year}
 use Rattle.journal.specs.Encode.{encode, append}
 use Rattle.journal.specs.Read.{readJournal}
@@ -76,7 +76,7 @@ outcome call journal =
 
 -- the bytes of each form of output. Marks: "two marks per engine, HC+NOx then CO", at the calculator's resolution of 1,024
 abbrev pub formBytes : Form → Progress → List ℕ
-formBytes Marks p = map markByte (printed 1024 p)
+formBytes Marks p = map markByte (yearMarks 1024 p)
 
 abbrev pub outBytes : Form → Model → List ℕ
 outBytes form NoSetup = []

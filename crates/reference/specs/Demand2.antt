@@ -17,7 +17,7 @@ use Rattle.year.specs.declared.Status.{Status}
 use Rattle.year.specs.Setup.{Pollutant, Hcnox, Co}
 use Rattle.year.specs.Replay.{Progress, replay, history}
 use Rattle.year.specs.Verdict.{verdict}
-use Rattle.year.specs.Status.{blank, printed}
+use Rattle.year.specs.Status.{blank, yearMarks}
 use Rattle.year.specs.Admissible.{admissible}
 use Rattle.year.specs.Model.{Year, noSetup}
 use Rattle.journal.specs.Read.{readJournal}
@@ -64,7 +64,7 @@ pub record Demand2 : Type 0 where
   pub answered : (call : Call) (journal : List ℕ) → refusalOn call journal ≡ 0 → answer call journal ≡ answer (Ask ReadStatus) (journalAfter call journal)
   -- what is written: the marks, at the front of the output
   pub marks : (journal out : List ℕ) (s : Setup) (es : List Event) → readJournal journal ≡ Year s es → refusalOn (Ask (Write Marks (length out))) journal ≡ 0
-      → outAfter Marks journal out ≡ put out 0 (map markByte (printed 1024 (replay s es)))
+      → outAfter Marks journal out ≡ put out 0 (map markByte (yearMarks 1024 (replay s es)))
   -- "and hands back just that written part": the front of the output
   pub handedBack : (form : Form) (journal out : List ℕ) → take (length (outPart form journal out)) (outAfter form journal out) ≡ outPart form journal out
   -- "For one setup, every list of accepted events .. has one book, and every accepted book reads back as its setup and list."

@@ -20,7 +20,7 @@ use Rattle.journal.specs.Read.{setupIn, eventIn, eventsIn}
 use Rattle.journal.specs.Acceptance.{isSlot, entersAt, entersUpTo}
 use Rattle.progress.specs.declared.Progress.{Progress as State}
 use Rattle.progress.specs.State.{progressOf, Consistent}
-use Rattle.progress.proofs.Steps.{Stands}
+use Rattle.progress.proofs.Steps.{Represents}
 use Rattle.slots.specs.Scanned.{ScannedAs, Entered, entered}
 
 -- where one slot does not enter, the slots up to a later one do not
@@ -91,7 +91,7 @@ module _ (journal : List ℕ) (j : ℕ) (p : State) (u : Entered journal j p) wh
     unfolding entersAt
     admitted = rw (he, u .stands) (and-eq-true-iff (isSlot (drop (slotPlace j) journal)) (admissible _ _) .0 t .1)
 
-    pub entry : (q : State) → (admissible (progressOf p) e ≡ true → Stands q (after e (progressOf p))) → Entered journal (j + 1) q
+    pub entry : (q : State) → (admissible (progressOf p) e ≡ true → Represents q (after e (progressOf p))) → Entered journal (j + 1) q
     entry q law =
         let next = law admitted in
         rw (add-one j)

@@ -11,14 +11,14 @@ use Rattle.year.specs.declared.Event.the-variants.{Amendment}
 use Rattle.year.specs.Setup.{Pollutant}
 use Rattle.year.specs.Replay.{Tested, Progress, after, history}
 use Rattle.year.specs.Verdict.{verdict}
-use Rattle.year.specs.Status.{status, newestMarks, printedMarks, printed}
+use Rattle.year.specs.Status.{status, newestMarks, printedMarks, yearMarks}
 
 module _ (k : ℕ) (standards : Pair) (p : Progress) where
   pub amended-status : status k (after (Amendment standards) p) ≡ status k p
   unfolding verdict
   amended-status = refl
 
-  pub amended-marks : printed k (after (Amendment standards) p) ≡ printed k p
+  pub amended-marks : yearMarks k (after (Amendment standards) p) ≡ yearMarks k p
   amended-marks = refl
 
 pub marks-next : (qs : List Pollutant) (k : ℕ) (x : Tested) (xs : List Tested) → printedMarks qs k (x ∷ xs) ≡ printedMarks qs k xs ++ newestMarks qs k (x ∷ xs)

@@ -7,7 +7,7 @@ use Prim.Native.Nat.{ℕ, zero, suc}
 use Rattle.rounding.specs.Cases.{noFactor}
 use Rattle.statistics.specs.declared.SampleSize.the-variants.{Tenths}
 use Rattle.cumsum.specs.declared.Mark.the-variants.{Unmarked, Over, Under}
-use Rattle.cumsum.specs.Cases.{from}
+use Rattle.cumsum.specs.Cases.{interval}
 use Rattle.year.specs.declared.Pair.{Pair}
 use Rattle.year.specs.declared.Setup.{Setup}
 use Rattle.year.specs.declared.Event.{Event}
@@ -16,7 +16,7 @@ use Rattle.year.specs.Setup.{Hcnox, Co}
 use Rattle.year.specs.Replay.{Progress, replay, history}
 use Rattle.year.specs.Verdict.{verdict, onePercent}
 use Rattle.year.specs.Admissible.{enginesFull, valid}
-use Rattle.year.specs.Status.{blank, status, printed}
+use Rattle.year.specs.Status.{blank, status, yearMarks}
 use Rattle.year.specs.Work.{atEngine, marksAt, verdictAt, cumsumAt, limitAt}
 
 abbrev pub pair : ℕ → ℕ → Pair
@@ -53,7 +53,7 @@ pub record Cases : Type 0 where
   pub onePercentOf250 : onePercent 250 ≡ 2
   pub onePercentOf350 : onePercent 350 ≡ 4
   -- T 100, X 500 three times: two marks per engine, HC+NOx then CO
-  pub printedOfThree : printed 1024 (replay (setupOf 5000 100) three) ≡ Unmarked ∷ Unmarked ∷ Over ∷ Under ∷ Over ∷ Under ∷ []
+  pub printedOfThree : yearMarks 1024 (replay (setupOf 5000 100) three) ≡ Unmarked ∷ Unmarked ∷ Over ∷ Under ∷ Over ∷ Under ∷ []
   -- the printed run: short with no engine and with one, continue with two, declared
   pub verdictOfNone : verdict 1024 (replay (setupOf 5000 800) []) ≡ 0
   pub verdictOfOne : verdict 1024 (replay (setupOf 5000 800) (engine 1 998 ∷ [])) ≡ 0
@@ -64,8 +64,8 @@ pub record Cases : Type 0 where
   pub verdictSettled : verdictAt 8 (replay (setupOf 5000 800) (engine 3 926 ∷ engine 2 1071 ∷ engine 1 998 ∷ [])) ≡ 6
   -- work at m = 8 of the first two: s 422,861, e 1
   pub marksAt8 : marksAt 8 two ≡ Unmarked ∷ Unmarked ∷ Over ∷ Under ∷ []
-  pub cumsumAt8 : cumsumAt 8 two 2 Hcnox ≡ from 8457266 8457267
-  pub limitAt8 : limitAt 8 two 2 Hcnox ≡ from 8457220 8457240
+  pub cumsumAt8 : cumsumAt 8 two 2 Hcnox ≡ interval 8457266 8457267
+  pub limitAt8 : limitAt 8 two 2 Hcnox ≡ interval 8457220 8457240
   -- the year as it was at engine 1, and at engine 2 as CO sees it
   pub atEngine1 : atEngine 1 Hcnox two ≡ record { result = 998; standard = 800 } ∷ []
   pub atEngine2 : atEngine 2 Co (replay (setupOf 5000 800) (Engine 3 1 (pair 3 33) ∷ Engine 2 1 (pair 2 22) ∷ Engine 1 1 (pair 1 11) ∷ []))

@@ -8,7 +8,7 @@ use Rattle.rounding.specs.Cases.{multiplied}
 use Rattle.statistics.specs.declared.SampleSize.the-variants.{Tenths, Absent}
 use Rattle.statistics.specs.Cases.{exactly}
 use Rattle.cumsum.specs.declared.Mark.the-variants.{Unmarked, Over, Under, Undecided}
-use Rattle.cumsum.specs.Cases.{from}
+use Rattle.cumsum.specs.Cases.{interval}
 use Rattle.cumsum.specs.Marks.{marks}
 use Rattle.year.specs.Setup.{Hcnox}
 use Rattle.year.specs.Periods.{periods}
@@ -31,8 +31,8 @@ pub record StarredCases : Type 0 where
   pub periodsOf1600And301 : periods 1600 301 ≡ 4
   -- * T 800, X 998 then 1,071: s 52,857, e 1, C 1,057,158 to 1,057,159, H 1,057,140 to 1,057,160, mark '?'. * At m = 8 it is 'O'
   pub deviationOfTwo : status 1024 two .hcnox .deviation ≡ exactly 52857 1
-  pub cumsumOfTwo : status 1024 two .hcnox .cumsum ≡ from 1057158 1057159
-  pub limitOfTwo : status 1024 two .hcnox .limit ≡ from 1057140 1057160
+  pub cumsumOfTwo : status 1024 two .hcnox .cumsum ≡ interval 1057158 1057159
+  pub limitOfTwo : status 1024 two .hcnox .limit ≡ interval 1057140 1057160
   pub markOfTwo : status 1024 two .hcnox .mark ≡ Undecided
   pub markOfTwoAt8 : status (1024 * 8) two .hcnox .mark ≡ Over
   -- * T 100, X 500 three times: "-OO", failed

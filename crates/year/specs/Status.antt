@@ -16,7 +16,7 @@ use Rattle.year.specs.Setup.{Pollutant, Hcnox, Co, judged}
 use Rattle.year.specs.Replay.{Tested, Progress, history}
 use Rattle.year.specs.Verdict.{verdict}
 
--- "Before engine 2 the figures other than n, S and verdict are zero and N is absent; with no engine the mark is '-'." Engine 1 has '-' too
+-- "Before engine 2 the figures other than n, S and verdict are zero ..; with no engine the mark is '-'." Engine 1 has '-' too. N stands beside the figures
 abbrev pub early : ℕ → SampleSize → Figures
 early sum size =
     record {
@@ -28,6 +28,7 @@ early sum size =
       mark = Unmarked;
     }
 
+-- "and N is absent"
 abbrev pub blank : ℕ → Figures
 blank sum = early sum Absent
 
@@ -59,13 +60,15 @@ status k p =
       co = figures k (sizeOf Co p) (history Co (p .tested));
     }
 
--- "two marks per engine, HC+NOx then CO", in the order of entry
+-- the newest engine's mark for each of some pollutants
 abbrev pub newestMarks : List Pollutant → ℕ → List Tested → List Mark
 newestMarks qs k xs = map (λ q. mark k (history q xs)) qs
 
+-- the marks of all engines, in the order of entry
 abbrev pub printedMarks : List Pollutant → ℕ → List Tested → List Mark
 printedMarks qs k [] = []
 printedMarks qs k (x ∷ xs) = printedMarks qs k xs ++ newestMarks qs k (x ∷ xs)
 
-abbrev pub printed : ℕ → Progress → List Mark
-printed k p = printedMarks judged k (p .tested)
+-- "two marks per engine, HC+NOx then CO"
+abbrev pub yearMarks : ℕ → Progress → List Mark
+yearMarks k p = printedMarks judged k (p .tested)

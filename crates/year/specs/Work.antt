@@ -9,7 +9,7 @@ use Rattle.cumsum.specs.Intervals.{cumsum, actionLimit}
 use Rattle.year.specs.Setup.{Pollutant}
 use Rattle.year.specs.Replay.{Progress, history}
 use Rattle.year.specs.Verdict.{verdict}
-use Rattle.year.specs.Status.{printed}
+use Rattle.year.specs.Status.{yearMarks}
 
 -- the first n engines of a year as one pollutant sees them: the year as it was at engine n
 abbrev pub atEngine : ℕ → Pollutant → Progress → List Test
@@ -18,7 +18,7 @@ atEngine n q p = history q (drop (length (p .tested) - n) (p .tested))
 module _ (m : ℕ) (p : Progress) where
   -- the marks, in the order in which they are printed
   abbrev pub marksAt : List Mark
-  marksAt = printed (1024 * m) p
+  marksAt = yearMarks (1024 * m) p
 
   abbrev pub verdictAt : ℕ
   verdictAt = verdict (1024 * m) p

@@ -23,7 +23,7 @@ use Rattle.engines.proofs.Arrays.{narrow, tested-next, with-engine-sized}
 use Rattle.progress.specs.declared.Progress.{Progress as State}
 use Rattle.progress.specs.State.{progressOf, Consistent}
 use Rattle.progress.proofs.Carried.{Room, room}
-use Rattle.progress.proofs.Steps.{Stands, amended, next-period, declared, engine}
+use Rattle.progress.proofs.Steps.{Represents, amended, next-period, declared, engine}
 use Rattle.slots.specs.Scanned.{ScannedAs, Entered}
 use Rattle.slots.proofs.Entering.{found, admitted, entry, stopped, finished}
 use Rattle.slots.proofs.enter_slots.Statement.{statement}
@@ -101,7 +101,7 @@ module _ (c : tie.Else1 Inv-loop μ-loop) {e : Event} (is : event (c .before) �
   admissible-here : admissible (progressOf (state b)) e ≡ true
   admissible-here = admitted (journal b) (j b) (state b) (entered b) e (sym is ∙ seen b .0) enters
 
-  round : {q : State} → (Consistent (state b) → admissible (progressOf (state b)) e ≡ true → Stands q (after e (progressOf (state b)))) → Sized (q .engines)
+  round : {q : State} → (Consistent (state b) → admissible (progressOf (state b)) e ≡ true → Represents q (after e (progressOf (state b)))) → Sized (q .engines)
       → (j b + 1 ≤ count b) × (count b ≤ 64) × Entered (journal b) (j b + 1) q × Sized (q .engines)
   round {q} law whole = (
     omega (arith, more b),
