@@ -11,7 +11,7 @@ use borrow.Author.Tests.{eqb-true, eqb-false}
 use Rattle.statistics.specs.declared.SampleSize.the-variants.{Absent}
 use Rattle.statistics.specs.Spread.{total, variation}
 use Rattle.statistics.specs.SampleSize.{sampleSize}
-use Rattle.estimates.proofs.Sizes.{absent-few, absent-even, in-tenths}
+use Rattle.sample_size.proofs.Sizes.{absent-few, absent-even, in-tenths}
 use Rattle.exports.specs.Numbers.{sizeNumber, NoneApart}
 
 module _ (n s t v : ℕ) (none : sizeNumber (sampleSize n s t v) ≡ 0) where

@@ -8,7 +8,7 @@ ghost use Rattle.year.specs.Status.{blank};
 ghost use Rattle.exports.specs.Numbers.{sizeNumber, pollutantNumbers, statusNumbers};
 use cumsum::Interval;
 use cumsum::Mark;
-use figures::marking::mark_byte;
+use marking::marks::mark_byte;
 use reference::Answer;
 use statistics::Deviation;
 use statistics::SampleSize;

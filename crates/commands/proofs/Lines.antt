@@ -11,10 +11,10 @@ use Rattle.buffers.specs.Bytes.{put}
 use Rattle.buffers.proofs.Lists.{length-put}
 use Rattle.protocol.specs.KeyLine.{Command, Refuse, asked, numbersFrom, callOf, callFrom, commandOf}
 use Rattle.protocol.specs.Reply.{commandReply, commandAfter, replyTo, journalAfterLine}
-use Rattle.parser.specs.declared.numbers.Numbers.{Numbers}
-use Rattle.parser.specs.declared.numbers.Numbers.the-variants.{Count, Refused}
-use Rattle.parser.specs.declared.request.Request.{Request}
-use Rattle.parser.specs.Numbers.{counted, countOf, listed}
+use Rattle.numbers.specs.declared.Numbers.{Numbers}
+use Rattle.numbers.specs.declared.Numbers.the-variants.{Count, Refused}
+use Rattle.parser.specs.declared.Request.{Request}
+use Rattle.numbers.specs.Numbers.{counted, countOf, listed}
 use Rattle.parser.specs.Request.{commandFor, Requests}
 use Rattle.replies.specs.Replied.{Replied}
 

@@ -2,8 +2,8 @@
 ghost use mathlib.Core.Path.{_≡_};
 ghost use Rattle.reference.specs.Refusals.{countsFit, allInRange, readingsFit};
 use conditions::both;
-use rounding::count_in_range;
-use rounding::reading_in_range;
+use results::count_in_range;
+use results::reading_in_range;
 
 // As many readings for each pollutant, 1 to 3.
 pub fn counts_fit(hcnox: &[u32], co: &[u32]) -> bool

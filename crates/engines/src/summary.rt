@@ -6,9 +6,9 @@ ghost use Rattle.statistics.specs.Spread.{Test};
 ghost use Rattle.statistics.specs.SampleSize.{sampleSizeOf, sizeReachedOf};
 ghost use Rattle.year.specs.Status.{figures};
 ghost use Rattle.figures.specs.Running.{running, Worked};
-use estimates::size::sample_size_of;
-use estimates::size::size_reached;
 use figures::Running;
+use sample_size::sample_size_of;
+use sample_size::size_reached;
 use statistics::SampleSize;
 use year::Figures;
 

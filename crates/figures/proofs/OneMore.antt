@@ -6,22 +6,25 @@ use Prim.Native.Nat.{ℕ, _+_, _*_, _≤_, _<_}
 use native.Mathlib.Nat.{mul-le-mul, mul-le-mul-left}
 use native.Mathlib.Omega.{arith}
 use lib.ListN.{length}
-use Rattle.estimates.specs.declared.Sums.{Sums}
+use Rattle.spread.specs.declared.Sums.{Sums}
 use Rattle.statistics.specs.declared.Deviation.{Deviation}
 use Rattle.statistics.specs.Spread.{Test, variation, deviation}
-use Rattle.estimates.specs.Sums.{sums}
+use Rattle.spread.specs.Sums.{sums}
 use Rattle.statistics.specs.Ranges.{TestsInRange, HistoryInRange}
-use Rattle.estimates.specs.Ranges.{SumsInRange, DeviationInRange, SizeInRange}
+use Rattle.spread.specs.Ranges.{SumsInRange, DeviationInRange}
+use Rattle.sample_size.specs.Ranges.{SizeInRange}
 use Rattle.statistics.proofs.Deviations.{deviation-early, inexact-le}
-use Rattle.estimates.proofs.Bounds.{deviation-in-range, size-in-range}
-use Rattle.estimates.proofs.Room.{deviation-lt}
+use Rattle.spread.proofs.Bounds.{deviation-in-range}
+use Rattle.sample_size.proofs.Bounds.{size-in-range}
+use Rattle.spread.proofs.Room.{deviation-lt}
 use Rattle.cumsum.specs.declared.Interval.{Interval}
 use Rattle.cumsum.specs.declared.Mark.{Mark}
 use Rattle.cumsum.specs.declared.Mark.the-variants.{Unmarked}
 use Rattle.figures.specs.declared.Running.{Running}
 use Rattle.cumsum.specs.Intervals.{nextCumsum, cumsum, limitOf}
 use Rattle.cumsum.specs.Marks.{compared, bothOver, undecidedPair, failed, undecided}
-use Rattle.figures.specs.Running.{newestStandard, running, NextInRange, RunningInRange, Worked}
+use Rattle.figures.specs.Running.{newestStandard, running, RunningInRange, Worked}
+use Rattle.marking.specs.Ranges.{NextInRange}
 use Rattle.cumsum.proofs.Finer.{cumsum-width}
 
 module _ (k : ℕ) where

@@ -8,10 +8,10 @@ use lib.ListN.{length}
 use borrow.Author.Tests.{eq-eqb, ne-eqb}
 use Rattle.reference.specs.Call.{Call, Enter}
 use Rattle.protocol.specs.KeyLine.{Make, engineFrom, ofCount, ofPairs, callOf}
-use Rattle.parser.specs.declared.request.Request.{Request}
-use Rattle.parser.specs.declared.request.Request.the-variants as requests
-use Rattle.parser.specs.declared.request.CallRequest.the-variants as callRequests
-use Rattle.parser.specs.declared.request.EntryRequest.the-variants.{Engine}
+use Rattle.parser.specs.declared.Request.{Request}
+use Rattle.parser.specs.declared.Request.the-variants as requests
+use Rattle.parser.specs.declared.CallRequest.the-variants as callRequests
+use Rattle.parser.specs.declared.EntryRequest.the-variants.{Engine}
 use Rattle.parser.specs.Request.{commandFor, Enough, Requests}
 
 -- a request that asks for a call, with numbers enough for it

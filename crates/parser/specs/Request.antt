@@ -6,12 +6,12 @@ use Prim.Native.Nat.{ℕ, _≤_}
 use lib.ListN.{length}
 use Rattle.reference.specs.Call as calls
 use Rattle.protocol.specs.KeyLine as lines
-use Rattle.parser.specs.declared.request.EntryRequest.{EntryRequest}
-use Rattle.parser.specs.declared.request.EntryRequest.the-variants.{Engine, Change}
-use Rattle.parser.specs.declared.request.CallRequest.{CallRequest}
-use Rattle.parser.specs.declared.request.CallRequest.the-variants.{SetUp, Enter, WriteMarks}
-use Rattle.parser.specs.declared.request.Request.{Request}
-use Rattle.parser.specs.declared.request.Request.the-variants.{Make, Refuse}
+use Rattle.parser.specs.declared.EntryRequest.{EntryRequest}
+use Rattle.parser.specs.declared.EntryRequest.the-variants.{Engine, Change}
+use Rattle.parser.specs.declared.CallRequest.{CallRequest}
+use Rattle.parser.specs.declared.CallRequest.the-variants.{SetUp, Enter, WriteMarks}
+use Rattle.parser.specs.declared.Request.{Request}
+use Rattle.parser.specs.declared.Request.the-variants.{Make, Refuse}
 
 -- the entry, the call and the command of a request, with the line's numbers
 abbrev pub entryFor : EntryRequest → List ℕ → calls.Entry

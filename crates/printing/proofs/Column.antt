@@ -10,14 +10,15 @@ use lib.Seq.{getD-set-same, getD-set-other}
 use Rattle.ascii.specs.Text.{byte}
 use Rattle.statistics.specs.declared.Deviation.{Deviation}
 use Rattle.statistics.specs.Spread.{Test, deviation}
-use Rattle.estimates.specs.declared.Sums.{Sums}
-use Rattle.estimates.specs.Sums.{sums}
-use Rattle.estimates.specs.Ranges.{SumsInRange, DeviationInRange}
+use Rattle.spread.specs.declared.Sums.{Sums}
+use Rattle.spread.specs.Sums.{sums}
+use Rattle.spread.specs.Ranges.{SumsInRange, DeviationInRange}
 use Rattle.cumsum.specs.declared.Interval.{Interval}
 use Rattle.cumsum.specs.Intervals.{nextCumsum, cumsum, limitOf}
 use Rattle.cumsum.specs.Marks.{compared, mark, markByte}
 use Rattle.figures.specs.declared.Running.{Running}
-use Rattle.figures.specs.Running.{running, NextInRange, RunningInRange}
+use Rattle.figures.specs.Running.{running, RunningInRange}
+use Rattle.marking.specs.Ranges.{NextInRange}
 use Rattle.figures.proofs.OneMore.{running-sums, later, sums-in-range, deviation-fits, next-fits, limit-fits}
 use Rattle.engines.specs.Engines.{testsTo, ColumnsInRange}
 use Rattle.engines.proofs.Arrays.{tests-length, columns-few, columns-room}

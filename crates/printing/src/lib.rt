@@ -11,13 +11,13 @@ ghost use Rattle.engines.specs.Engines.{tested, EnginesInRange, ColumnsInRange}
 ghost use Rattle.printing.specs.Columns.{MarkedTo};
 use cumsum::Interval;
 use engines::Engines;
-use estimates::summing::add_result;
-use estimates::summing::no_sums;
-use estimates::variance::deviation_of;
-use figures::limits::action_limit;
-use figures::limits::next_cumsum;
-use figures::marking::compare;
-use figures::marking::mark_byte;
+use marking::limits::action_limit;
+use marking::limits::next_cumsum;
+use marking::marks::compare;
+use marking::marks::mark_byte;
+use spread::summing::add_result;
+use spread::summing::no_sums;
+use spread::variance::deviation_of;
 use year::MOST_ENGINES;
 
 // The marks of one pollutant's engines as bytes, at any resolution. Only the sums and C go on from engine to engine: a mark needs no more, and all figures would

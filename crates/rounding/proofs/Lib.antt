@@ -1,3 +1,2 @@
 pub mod Cases
 pub mod Nearest
-pub mod Room

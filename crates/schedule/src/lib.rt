@@ -5,8 +5,8 @@ ghost use Rattle.year.specs.Periods.{periods, needs};
 ghost use Rattle.year.specs.Verdict.{onePercent};
 use conditions::both;
 use conditions::within;
-use rounding::factor_in_range;
-use rounding::nearest_even;
+use results::factor_in_range;
+use results::nearest_even;
 use year::Pair;
 use year::Setup;
 

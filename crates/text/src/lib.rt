@@ -7,7 +7,7 @@ ghost use Rattle.protocol.specs.Reply.{spaced, sizeText};
 ghost use Rattle.ascii.specs.Decimal.{decimal};
 ghost use Rattle.text.specs.Written.{Written};
 use cumsum::Mark;
-use figures::marking::mark_byte;
+use marking::marks::mark_byte;
 use statistics::SampleSize;
 
 // All bytes of a text.

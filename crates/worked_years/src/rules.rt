@@ -2,8 +2,8 @@
 ghost use mathlib.Core.Path.{_≡_};
 ghost use Prim.Native.Nat.{_≤_};
 ghost use lib.ListN.{length};
+use results::result_of;
 use rounding::Factor;
-use rounding::result_of;
 use schedule::needs;
 use schedule::one_percent;
 use schedule::periods;

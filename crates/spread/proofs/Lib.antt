@@ -1,0 +1,4 @@
+pub mod Bounds
+pub mod Newton
+pub mod Room
+pub mod OneMore
