@@ -1,10 +1,17 @@
 // The digits at a position of a line.
 ghost use mathlib.Core.Path.{_≡_};
 ghost use Prim.Native.Nat.{_+_, _-_, _≤_};
-ghost use lib.ListN.{take, drop};
+ghost use lib.ListN.{drop};
 ghost use Rattle.protocol.specs.Number.{isNumber, numberAt};
-ghost use Rattle.ascii.specs.Decimal.{isDigit, digits, spelt};
+ghost use Rattle.ascii.specs.Decimal.{isDigit, digits};
+ghost use Rattle.reader.specs.Digits.{DigitsRead};
 use protocol::Number;
+
+// Digits of a line: the position after them, and the number that they spell.
+struct Digits {
+    end: usize,
+    value: u32,
+}
 
 fn is_digit(b: u8) -> bool
     ensures { λ r. ⌜ r ≡ isDigit b ⌝ }
@@ -12,37 +19,29 @@ fn is_digit(b: u8) -> bool
     b'0' <= b && b <= b'9'
 }
 
-// The position after the digits that stand at `at`.
-fn digits_end(line: &[u8], at: usize) -> usize
-    ensures { λ r. ⌜ r ≡ at + digits (drop at (now (line .entry))) ⌝ }
-{
-    let mut i = at;
-    while i < line.len() {
-        if !is_digit(line[i]) {
-            return i;
-        }
-        i += 1;
-    }
-    i
-}
-
-// The number that the digits from `at` up to `end` spell.
-fn digits_value(line: &[u8], at: usize, end: usize) -> u32
-    requires { ⌜ (at ≤ end) × (end ≤ at + 8) × (end ≤ at + digits (drop at (now line))) ⌝ }
-    ensures { λ r. ⌜ r ≡ spelt 0 (take (end - at) (drop at (now (line .entry)))) ⌝ }
+// The digits that stand at `at`, nine of them at the most: the position after them, and the number that they spell. A ninth tells that there are too many.
+fn read_digits(line: &[u8], at: usize) -> Digits
+    ensures { λ r. ⌜ DigitsRead (now (line .entry)) at (r .end) (r .value) ⌝ }
 {
     let mut i = at;
     let mut v: u32 = 0;
-    while i < end {
-        v = v * 10 + (line[i] as u32 - 48);
+    while i < line.len() {
+        let b = line[i];
+        if !is_digit(b) {
+            return Digits { end: i, value: v };
+        }
+        if i - at == 9 {
+            return Digits { end: i, value: v };
+        }
+        v = v * 10 + (b as u32 - 48);
         i += 1;
     }
-    v
+    Digits { end: i, value: v }
 }
 
 // Whether the digits from `at` up to `end` are a number: 1 to 8 of them, with no leading zero but in 0.
 fn is_number(line: &[u8], at: usize, end: usize) -> bool
-    requires { ⌜ end ≡ at + digits (drop at (now line)) ⌝ }
+    requires { ⌜ (at ≤ end) × (end ≤ at + digits (drop at (now line))) ⌝ }
     ensures { λ r. ⌜ r ≡ isNumber (now (line .entry)) at (end - at) ⌝ }
 {
     if end <= at {
@@ -58,12 +57,13 @@ fn is_number(line: &[u8], at: usize, end: usize) -> bool
 pub fn number_at(line: &[u8], at: usize) -> Number
     ensures { λ r. ⌜ r ≡ numberAt (now (line .entry)) at ⌝ }
 {
-    let end = digits_end(line, at);
+    let read = read_digits(line, at);
+    let end = read.end;
     if !is_number(line, at, end) {
         return Number::Nothing;
     }
     Number::Value {
-        value: digits_value(line, at, end),
+        value: read.value,
         next: end,
     }
 }

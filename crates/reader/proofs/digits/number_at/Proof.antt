@@ -1,44 +1,57 @@
 -- `number_at` meets its contract.
 use mathlib.Core.Path.{_≡_, sym, _∙_}
-use Prim.Native.Nat.{_+_, _-_}
+use mathlib.Core.Logic.{⊎-elim}
+use mathlib.Core.Bool.{false}
+use mathlib.Core.List.{List}
+use Prim.Native.Nat.{ℕ, _+_, _-_, _≤_}
 use native.Mathlib.Omega.{arith}
 use lib.ListN.{drop}
 use borrow.Author.Needs.{needs}
 use borrow.Author.Tests.{not-true, not-false}
-use Rattle.protocol.specs.Number.{numberAt}
+use Rattle.protocol.specs.Number.{isNumber, numberAt}
 use Rattle.ascii.specs.Decimal.{digits}
-use Rattle.reader.proofs.Spelling.{number-size}
+use Rattle.reader.specs.Digits.{DigitsRead}
+use Rattle.reader.proofs.Spelling.{number-size, too-many}
 use Rattle.reader.proofs.digits.number_at.Statement.{statement}
 use Rattle.reader.proofs.digits.number_at.Tie as tie
 
-digits-end-requires : tie.Need-digits-end-requires
-digits-end-requires c κs = search needs
+-- of what was read
+module _ (line : List ℕ) (at end value : ℕ) (r : DigitsRead line at end value) where
+  -- where it is no number, the digits are none
+  no-number : isNumber line at (end - at) ≡ false → isNumber line at (digits (drop at line)) ≡ false
+  no-number f =
+      ⊎-elim
+      (λ e. let count : end - at ≡ digits (drop at line) = omega arith in rw (← count) f)
+      (λ e. too-many line at (digits (drop at line)) (omega (arith, r .among)))
+      (r .whole)
+
+  -- where it has up to eight digits, it has all
+  all-digits : end - at ≤ 8 → end - at ≡ digits (drop at line)
+  all-digits few = ⊎-elim (λ e. omega (arith, r .after)) (λ e. absurd (omega arith)) (r .whole)
+
+read-digits-requires : tie.Need-read-digits-requires
+read-digits-requires c κs = search needs
 
 is-number-requires : tie.Need-is-number-requires
-is-number-requires c κs = search needs
+is-number-requires c κs = let r = c .read-digits .ensures in (r .after, r .among)
 
 returns : tie.Need-returns
 unfolding numberAt
 returns c =
     let a = c .before .before .before .before .args in
-    let end = c .before .before .digits-end .result in
-    let count : end - a .at ≡ digits (drop (a .at) (a .line .now)) = omega arith in
-    rw (← count, ← c .before .is-number .ensures, not-true (c .before .is-number .result) (c .if1 .taken))
-
-digits-value-requires : tie.Need-digits-value-requires
-digits-value-requires c κs = omega (arith, number-size _ _ _ (sym (c .before .is-number .ensures) ∙ not-false _ (c .if1 .left)))
+    let r = c .before .before .read-digits in
+    let none = sym (c .before .is-number .ensures) ∙ not-true (c .before .is-number .result) (c .if1 .taken) in
+    rw (no-number (a .line .now) (a .at) (r .result .end) (r .result .value) (r .ensures) none)
 
 returns-2 : tie.Need-returns-2
 unfolding numberAt
 returns-2 c =
-    let a = c .before .before .before .before .before .args in
-    let end = c .before .before .before .digits-end .result in
-    let test = c .before .before .is-number in
-    let count : end - a .at ≡ digits (drop (a .at) (a .line .now)) = omega arith in
-    let next : a .at + (end - a .at) ≡ end = omega arith in
-    rw (← count, ← test .ensures, not-false (test .result) (c .before .if1 .left), ← c .digits-value .ensures, next)
+    let a = c .before .before .before .before .args in
+    let r = c .before .before .read-digits in
+    let number = sym (c .before .is-number .ensures) ∙ not-false (c .before .is-number .result) (c .if1 .left) in
+    let count = all-digits (a .line .now) (a .at) (r .result .end) (r .result .value) (r .ensures) (number-size _ _ _ number .1) in
+    let next : a .at + (r .result .end - a .at) ≡ r .result .end = omega (arith, r .ensures .after) in
+    rw (← count, number, ← r .ensures .spells, next)
 
 pub number-at-spec : {M : Type 1} → statement M
-number-at-spec =
-    tie.close
-    (tie.spec digits-end-requires is-number-requires returns digits-value-requires returns-2)
+number-at-spec = tie.close (tie.spec read-digits-requires is-number-requires returns returns-2)
