@@ -3,7 +3,7 @@ use mathlib.Core.Path.{_≡_}
 use mathlib.Core.Bool.{true, false}
 use mathlib.Core.List.{[], _∷_}
 use Rattle.conditions.specs.Ranges.{within, distance}
-use Rattle.conditions.specs.Rows.{Row, first, before, from, applies}
+use Rattle.conditions.specs.Rows.{first, before, from, applies}
 
 pub record Cases : Type 0 where
   -- the first row that applies is taken, though a later one applies too; where none applies, the number given

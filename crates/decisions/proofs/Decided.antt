@@ -12,7 +12,7 @@ use Rattle.year.specs.Admissible.{lastPeriod}
 use Rattle.progress.specs.State.{progressOf}
 use Rattle.journal.specs.Read.{readJournal}
 use Rattle.reference.specs.declared.Change.{Change}
-use Rattle.reference.specs.Call.{Entry, EnterChange, Enter, changeEvent, eventOf}
+use Rattle.reference.specs.Call.{Entry, EnterChange, changeEvent, eventOf}
 use Rattle.reference.specs.Refusals.{refusals}
 use Rattle.slots.specs.declared.Scanned.{Scanned}
 use Rattle.slots.specs.Scanned.{replayed, ScannedAs}

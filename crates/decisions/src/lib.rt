@@ -1,7 +1,7 @@
 // What an entry comes to: the event that it adds, or the number of its refusal. Nothing is written. The decision on a change is made here, that on an engine in
 // the crate engine_decision.
 ghost use mathlib.Core.Path.{_≡_};
-ghost use mathlib.Core.Bool.{not, _||_};
+ghost use mathlib.Core.Bool.{not};
 ghost use Rattle.year.specs.Setup.{standardsInRange};
 ghost use Rattle.progress.specs.State.{progressOf, Consistent};
 ghost use Rattle.journal.specs.Read.{readJournal};

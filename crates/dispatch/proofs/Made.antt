@@ -1,5 +1,5 @@
 -- A call made: its reply, and the journal after it.
-use mathlib.Core.Path.{_≡_, sym, _∙_}
+use mathlib.Core.Path.{_≡_, sym}
 use mathlib.Core.List.{List}
 use Prim.Native.Nat.{ℕ}
 use Rattle.reference.specs.declared.Answer.{Answer}

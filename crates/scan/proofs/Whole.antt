@@ -1,6 +1,6 @@
 -- The tests of a whole buffer, as the code makes them: size, number of events, header and unused slots, and then the events.
-use mathlib.Core.Path.{_≡_, refl, sym, subst, _∙_}
-use mathlib.Core.Bool.{Bool, true, false, not, _&&_, true≢false, and-eq-true-iff}
+use mathlib.Core.Path.{_≡_, refl, sym, _∙_}
+use mathlib.Core.Bool.{Bool, true, false, _&&_, true≢false, and-eq-true-iff}
 use mathlib.Core.List.{List}
 use Prim.Native.Nat.{ℕ, _-_, _≤_, _<_}
 use native.Mathlib.Omega.{arith}
@@ -9,14 +9,12 @@ use Rattle.buffers.specs.Bytes.{isZero}
 use Rattle.buffers.proofs.Lists.{part-from}
 use Rattle.conditions.proofs.Tests.{and-true}
 use Rattle.year.specs.Setup.{setupInRange}
-use Rattle.year.specs.Model.{Model, NoSetup, noSetup}
+use Rattle.year.specs.Model.{NoSetup}
 use Rattle.journal.specs.Encode.{slotPlace}
 use Rattle.journal.specs.Read.{setupIn, readJournal}
 use Rattle.journal.specs.Acceptance.{isHeader, entersUpTo}
 use Rattle.journal.proofs.Exactly.{acceptable-read, not-acceptable}
-use Rattle.progress.specs.State.{progressOf, Consistent}
-use Rattle.slots.specs.declared.Scanned.{Scanned}
-use Rattle.slots.specs.Scanned.{replayed, ScannedAs, entered}
+use Rattle.slots.specs.Scanned.{entered}
 use Rattle.slots.proofs.Entering.{none-entered, all-entered}
 
 module _ (journal : List ℕ) where

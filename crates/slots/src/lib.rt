@@ -1,25 +1,18 @@
 // The events of a journal's slots, entered one after another.
 ghost use mathlib.Core.Path.{_≡_};
-ghost use mathlib.Core.Bool.{true, not};
 ghost use Prim.Native.Nat.{_≤_};
 ghost use lib.ListN.{length};
-ghost use Rattle.year.specs.Model.{NoSetup, noSetup};
-ghost use Rattle.journal.specs.Read.{readJournal};
-ghost use Rattle.progress.specs.State.{progressOf, Consistent};
-ghost use Rattle.slots.specs.Scanned.{replayed, ScannedAs, Entered, entered};
+ghost use Rattle.year.specs.Model.{NoSetup};
+ghost use Rattle.slots.specs.Scanned.{ScannedAs, Entered, entered};
 use admission::is_admissible;
-use buffers::parts::is_zero;
 use conditions::both;
 use cumsum::RESOLUTION;
 use decoder::event_at;
-use decoder::is_header;
 use decoder::is_slot;
-use decoder::setup_in;
 use figures::add;
 use progress::Progress;
 use progress::events::start;
 use rounding::Factor;
-use schedule::setup_in_range;
 use year::Event;
 use year::Factors;
 use year::Pair;

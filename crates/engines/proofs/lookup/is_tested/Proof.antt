@@ -1,6 +1,6 @@
 -- `lookup::is_tested` meets its contract. The invariant: what was found is what the engines before i tell. The measure is what is left.
 use mathlib.Core.Path.{_≡_, refl, sym, ap, _∙_}
-use Prim.Native.Nat.{_+_, _-_, _≤_}
+use Prim.Native.Nat.{_-_, _≤_}
 use native.Mathlib.Numerals.{add-one}
 use native.Mathlib.Omega.{arith}
 use Rattle.engines.proofs.Sized.{number-fits}
