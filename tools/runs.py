@@ -7,7 +7,6 @@ nothing with the calculator.
   run_years    the other worked years of examples/, one after another
   run_lines    lines that are not of the form, too long or of any bytes, before a setup, in mid-year and after a second setup; the calls of
                crates/call_lists/stdin as key lines, with lines damaged by a fixed seed among them; no newline at the end
-  run_empty    an input of no bytes
 Counts of what was met go to standard error; the script fails if a letter, a refusal that a key line can meet, a verdict or a mark was never met.
 """
 import random
@@ -209,7 +208,6 @@ def main():
     write('calculator', worked_year('year'), met)
     write('run_years', b''.join(map(worked_year, YEARS)), met)
     write('run_lines', any_lines() + b'\n' + sessions(), met)
-    write('run_empty', b'', met)
     for title, counts in zip(('letters accepted', 'refusals', 'verdicts', 'marks'), met):
         print(title, dict(sorted(counts.items())), file=sys.stderr)
     # 3 and 16 cannot be met by a key line: the book has its size, and L lends room for forty engines

@@ -9,7 +9,8 @@ use Rattle.buffers.proofs.LittleEndian.{Bytes}
 use Rattle.year.specs.declared.Setup.{Setup}
 use Rattle.year.specs.declared.Event.{Event}
 use Rattle.journal.specs.Read.{setupIn, eventIn}
-use Rattle.encoder.specs.Fits.{EventFits, SetupFits}
+use Rattle.setup_encoder.specs.Fits.{SetupFits}
+use Rattle.event_encoder.specs.Fits.{EventFits}
 
 module _ (bytes : List ℕ) (known : Bytes bytes) where
   pub event-fits : {e : Event} → e ≡ eventIn bytes → EventFits e

@@ -3,10 +3,10 @@ ghost use mathlib.Core.Path.{_≡_};
 ghost use Prim.Native.Nat.{_≤_};
 ghost use lib.ListN.{length};
 use check::same;
-use decoder::event_at;
-use decoder::setup_in;
-use encoder::append;
-use encoder::write_setup;
+use event_decoder::event_at;
+use event_encoder::append;
+use setup_decoder::setup_in;
+use setup_encoder::write_setup;
 
 // The event at the front of a part, appended where there is room.
 fn append_first(part: &[u8], out: &mut [u8])

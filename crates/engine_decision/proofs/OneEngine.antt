@@ -21,13 +21,13 @@ use Rattle.reference.specs.Call.{Readings, EnterEngine, resultsOf, eventOf}
 use Rattle.reference.specs.Refusals.{refusals, countsFit}
 use Rattle.slots.specs.declared.Scanned.{Scanned}
 use Rattle.slots.specs.Scanned.{ScannedAs}
-use Rattle.decisions.specs.declared.Decision.the-variants.{Add, Refuse}
-use Rattle.decisions.specs.Decisions.{decision, decisionOn}
+use Rattle.refusals.specs.declared.Decision.the-variants.{Add, Refuse}
+use Rattle.refusals.specs.Decisions.{decision, decisionOn}
 use Rattle.engine_decision.specs.Rows.{askedRows, workedRows, engineDecision}
 use Rattle.refusals.specs.Parts.{entryRows}
 use Rattle.refusals.proofs.Parts.{entry-held}
 use Rattle.refusals.proofs.ScannedYear.{scanned-test}
-use Rattle.decisions.proofs.Decided.{refused-by, passed-on, own-decides}
+use Rattle.refusals.proofs.Decided.{refused-by, passed-on, own-decides}
 
 module _ (number : ℕ) (readings : Readings) (p : Progress) where
   pub asked-numbered : Numbered (askedRows number readings p)

@@ -11,8 +11,8 @@ use Rattle.year.specs.Replay.{Progress, isTested}
 use Rattle.year.specs.Admissible.{numberInRange}
 use Rattle.reference.specs.Call.{Readings, EnterEngine, resultsOf, eventOf}
 use Rattle.reference.specs.Refusals.{countsFit, readingsFit}
-use Rattle.decisions.specs.declared.Decision.{Decision}
-use Rattle.decisions.specs.Decisions.{decision}
+use Rattle.refusals.specs.declared.Decision.{Decision}
+use Rattle.refusals.specs.Decisions.{decision}
 
 -- asked before its results are worked
 abbrev pub askedRows : ℕ → Readings → Progress → List Row

@@ -19,9 +19,9 @@ use Rattle.reference.proofs.Demand1.{demand-1}
 use Rattle.reference.proofs.Demand2.{demand-2}
 use Rattle.slots.specs.declared.Scanned.{Scanned}
 use Rattle.slots.specs.Scanned.{replayed, ScannedAs}
-use Rattle.decisions.specs.declared.Decision.{Decision}
-use Rattle.decisions.specs.declared.Decision.the-variants.{Add, Refuse}
-use Rattle.decisions.specs.Decisions.{decisionOn}
+use Rattle.refusals.specs.declared.Decision.{Decision}
+use Rattle.refusals.specs.declared.Decision.the-variants.{Add, Refuse}
+use Rattle.refusals.specs.Decisions.{decisionOn}
 use Rattle.refusals.proofs.ScannedYear.{scanned-consistent}
 use Rattle.entries.specs.Entering.{CanAdd, Enterable, answerTo, journalWith}
 use Rattle.reference.proofs.Promises.{Promised, promised}

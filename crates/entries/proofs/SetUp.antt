@@ -11,8 +11,8 @@ use Rattle.year.specs.Replay.{Progress, start}
 use Rattle.year.specs.Status.{status}
 use Rattle.journal.specs.Encode.{encode}
 use Rattle.journal.specs.Read.{readJournal}
-use Rattle.encoder.specs.Fits.{SetupFits}
-use Rattle.encoder.proofs.Fits.{setup-fits}
+use Rattle.setup_encoder.specs.Fits.{SetupFits}
+use Rattle.setup_encoder.proofs.Fits.{setup-fits}
 use Rattle.reference.specs.declared.Answer.the-variants.{Accepted}
 use Rattle.reference.specs.Call.{SetUp}
 use Rattle.reference.specs.Answers.{refusalOn}

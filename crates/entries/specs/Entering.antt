@@ -13,8 +13,8 @@ use Rattle.progress.specs.State.{progressOf, Consistent}
 use Rattle.journal.specs.Encode.{append}
 use Rattle.reference.specs.declared.Answer.{Answer}
 use Rattle.reference.specs.declared.Answer.the-variants.{Accepted, Refused}
-use Rattle.decisions.specs.declared.Decision.{Decision}
-use Rattle.decisions.specs.declared.Decision.the-variants.{Add, Refuse}
+use Rattle.refusals.specs.declared.Decision.{Decision}
+use Rattle.refusals.specs.declared.Decision.the-variants.{Add, Refuse}
 
 -- an event can be added: there is a slot for it, and the year that the state stands for admits it
 pub record CanAdd (journal : List ℕ) (p : State) (e : Event) : Type 0 where

@@ -1,4 +1,5 @@
-// Which calls are refused, by which number: the tests of the one table of refusals (`refusals` of the crate reference), in its order. Nothing is written.
+// Which calls are refused, by which number: the tests of the one table of refusals (`refusals` of the crate reference), in its order; and what an entry comes to,
+// of which the crates change_decision and engine_decision decide. Nothing is written.
 ghost use mathlib.Core.Path.{_≡_};
 ghost use Rattle.conditions.specs.Rows.{first};
 ghost use Rattle.journal.specs.Read.{readJournal};
@@ -6,6 +7,7 @@ ghost use Rattle.reference.specs.Call.{Marks, ReadStatus, Write, SetUp, Ask};
 ghost use Rattle.reference.specs.Answers.{refusalOn};
 ghost use Rattle.slots.specs.Scanned.{ScannedAs};
 ghost use Rattle.refusals.specs.Parts.{entryRows};
+ghost use Rattle.refusals.specs.Decisions.{decision};
 use conditions::row;
 use journal::JOURNAL_SIZE;
 use schedule::factors_in_range;
@@ -13,8 +15,25 @@ use schedule::production_in_range;
 use schedule::standards_in_range;
 use slots::Scanned;
 use verdicts::verdict::closed;
+use year::Event;
 use year::MOST_EVENTS;
 use year::Setup;
+
+// What an entry comes to: the event that it adds, or the number of its refusal.
+pub enum Decision {
+    Add(Event),
+    Refuse(u8),
+}
+
+// An event is added where no row applies.
+pub fn decide(refusal: u8, e: Event) -> Decision
+    ensures { λ r. ⌜ r ≡ decision refusal e ⌝ }
+{
+    if refusal == 0 {
+        return Decision::Add(e);
+    }
+    Decision::Refuse(refusal)
+}
 
 // 3, 4, 5 and 6. Setup asks nothing of what the buffer holds.
 pub fn setup_refusal(journal: &[u8], s: Setup) -> u8

@@ -6,7 +6,7 @@ use Rattle.reference.specs.Call.{engineEntry}
 use Rattle.refusals.specs.Parts.{entryRows}
 use borrow.Author.Needs.{needs}
 use Rattle.refusals.proofs.Parts.{entry-held}
-use Rattle.decisions.proofs.Decided.{shared-refused}
+use Rattle.refusals.proofs.Decided.{shared-refused}
 use Rattle.engine_decision.proofs.OneEngine.{engine-decided}
 use Rattle.refusals.proofs.ScannedYear.{scanned-consistent}
 use Rattle.engine_decision.proofs.engine.Statement.{statement}

@@ -2,7 +2,7 @@
 use mathlib.Core.Path.{sym, ap, subst, _∙_}
 use Rattle.year.specs.Status.{status}
 use Rattle.reference.specs.declared.Answer.the-variants.{Accepted}
-use Rattle.encoder.proofs.Fits.{event-fits}
+use Rattle.event_encoder.proofs.Fits.{event-fits}
 use Rattle.progress.specs.State.{progressOf}
 use Rattle.entries.specs.Entering.{CanAdd, Enterable, answerTo}
 use borrow.Author.Needs.{needs}

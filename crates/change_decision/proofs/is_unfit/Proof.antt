@@ -1,0 +1,37 @@
+-- `is_unfit` meets its contract.
+use borrow.Author.Needs.{needs}
+use Rattle.change_decision.proofs.is_unfit.Statement.{statement}
+use Rattle.change_decision.proofs.is_unfit.Tie as tie
+
+enum-known-c : tie.Need-enum-known-c
+enum-known-c c = search needs
+
+standards-in-range-requires : tie.Need-standards-in-range-requires
+standards-in-range-requires c κs = search needs
+
+enum-told : tie.Need-enum-told
+enum-told c = search needs
+
+enum-told-2 : tie.Need-enum-told-2
+enum-told-2 c = search needs
+
+returns : tie.Need-returns
+returns c = rw (c .before .before .c .given .1, c .standards-in-range .ensures)
+
+returns-2 : tie.Need-returns-2
+returns-2 c = search needs
+
+returns-3 : tie.Need-returns-3
+returns-3 c = search needs
+
+pub is-unfit-spec : {M : Type 1} → statement M
+is-unfit-spec =
+    tie.close
+    (tie.spec
+    enum-known-c
+    standards-in-range-requires
+    enum-told
+    enum-told-2
+    returns
+    returns-2
+    returns-3)

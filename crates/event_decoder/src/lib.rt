@@ -1,0 +1,55 @@
+// What the bytes of a journal's slot say, and whether they say it in the one way that is accepted.
+ghost use mathlib.Core.Path.{_≡_};
+ghost use Prim.Native.Nat.{_≤_};
+ghost use lib.ListN.{length};
+ghost use Rattle.journal.specs.Read.{eventIn};
+ghost use Rattle.journal.specs.Acceptance.{isSlot};
+use buffers::little_endian::number16;
+use buffers::parts::is_zero;
+use conditions::both;
+use conditions::either;
+use year::Event;
+use year::Pair;
+
+// The event in the slot at the front of a part.
+pub fn event_at(part: &[u8]) -> Event
+    requires { ⌜ 8 ≤ length (now part) ⌝ }
+    ensures { λ r. ⌜ r ≡ eventIn (now (part .entry)) ⌝ }
+{
+    let kind = part[0];
+    let pair = Pair {
+        hcnox: number16(part, 2),
+        co: number16(part, 4),
+    };
+    let number = number16(part, 6);
+    let readings = part[1] as u32;
+    if kind == 1 {
+        return Event::Engine {
+            number,
+            readings,
+            results: pair,
+        };
+    }
+    if kind == 2 {
+        return Event::Amendment(pair);
+    }
+    if kind == 3 {
+        return Event::NextPeriod;
+    }
+    Event::Declaration
+}
+
+// Whether the slot at the front of a part is of a named kind, with its unnamed bytes zero.
+pub fn is_slot(part: &[u8]) -> bool
+    requires { ⌜ 8 ≤ length (now part) ⌝ }
+    ensures { λ r. ⌜ r ≡ isSlot (now (part .entry)) ⌝ }
+{
+    let kind = part[0];
+    if kind == 1 {
+        return true;
+    }
+    if kind == 2 {
+        return both(is_zero(&part[1..2]), is_zero(&part[6..8]));
+    }
+    both(either(kind == 3, kind == 4), is_zero(&part[1..8]))
+}

@@ -1,0 +1,53 @@
+// An event written into its slot of a journal, with byte 24.
+ghost use mathlib.Core.Path.{_≡_};
+ghost use Prim.Native.Nat.{_<_};
+ghost use lib.ListN.{length, getD};
+ghost use Rattle.journal.specs.Encode.{slot, slotOf, append};
+ghost use Rattle.event_encoder.specs.Fits.{EventFits};
+use buffers::little_endian::paired;
+use buffers::little_endian::write_numbers;
+use year::Event;
+use year::Pair;
+
+// Writes a slot: its kind, the readings, and three numbers of two bytes.
+fn write_slot(part: &mut [u8], kind: u32, readings: u32, numbers: Pair, number: u32)
+    requires { ⌜ (length (now part) ≡ 8) × (kind < 256) × (readings < 256) ⌝ }
+    ensures { λ _. ⌜ now (part .exit) ≡ slot (record { kind = kind; readings = readings; first = numbers .hcnox; second = numbers .co; third = number }) ⌝ }
+{
+    write_numbers(
+        part,
+        paired(kind, readings),
+        numbers.hcnox,
+        numbers.co,
+        number,
+    );
+}
+
+// Writes an event into the slot that is lent.
+fn write_event(part: &mut [u8], e: Event)
+    requires { ⌜ (length (now part) ≡ 8) × EventFits e ⌝ }
+    ensures { λ _. ⌜ now (part .exit) ≡ slotOf e ⌝ }
+{
+    let none = Pair { hcnox: 0, co: 0 };
+    match e {
+        Event::Engine {
+            number,
+            readings,
+            results,
+        } => write_slot(part, 1, readings, results, number),
+        Event::Amendment(standards) => write_slot(part, 2, 0, standards, 0),
+        Event::NextPeriod => write_slot(part, 3, 0, none, 0),
+        Event::Declaration => write_slot(part, 4, 0, none, 0),
+    }
+}
+
+// Writes one event more: its slot, and the number of events in byte 24.
+pub fn append(journal: &mut [u8], e: Event)
+    requires { ⌜ (length (now journal) ≡ 544) × (getD (now journal) 24 0 < 64) × EventFits e ⌝ }
+    ensures { λ _. ⌜ now (journal .exit) ≡ append (now (journal .entry)) e ⌝ }
+{
+    let count = journal[24] as usize;
+    let at = 32 + 8 * count;
+    write_event(&mut journal[at..at + 8], e);
+    journal[24] = (count + 1) as u8;
+}
