@@ -51,8 +51,9 @@ pub fn status_refusal(journal: &[u8], scanned: Scanned) -> u8
     requires { ⌜ ScannedAs scanned (readJournal (now journal)) ⌝ }
     ensures { λ r. ⌜ r ≡ refusalOn (Ask ReadStatus) (now (journal .entry)) ⌝ }
 {
-    let unread = row(!scanned.accepted, 7, 0);
-    row(journal.len() != JOURNAL_SIZE, 3, unread)
+    let size = journal.len() != JOURNAL_SIZE;
+    let unread = !scanned.accepted;
+    row(size, 3, row(unread, 7, 0))
 }
 
 // 3, 7 and 16, for an output of this size.
