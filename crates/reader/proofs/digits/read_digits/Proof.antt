@@ -1,7 +1,7 @@
 -- `read_digits` meets its contract. The invariant: up to nine digits stand before i, v is what they spell, and those from i on are the others. The measure is the
 -- rest of the line.
 use mathlib.Core.Path.{_≡_, refl, sym, _∙_}
-use mathlib.Core.Logic.{inl, inr}
+use mathlib.Core.Logic.{_⊎_, inl, inr}
 use mathlib.Core.Bool.{true}
 use mathlib.Core.List.{List}
 use Prim.Native.Nat.{ℕ, _+_, _-_, _^_, _≤_, _<_}
@@ -35,7 +35,7 @@ shared-slice-read-b c = omega arith
 is-digit-requires : tie.Need-is-digit-requires Inv-loop μ-loop
 is-digit-requires c κs = tt
 
--- what is read so far, where the others are none or there are nine
+-- what is read so far, where it is all of the digits or nine
 module _ (l : tie.At-loop Inv-loop μ-loop) where
   abbrev line : List ℕ
   line = l .before .before .args .line .now
@@ -46,23 +46,17 @@ module _ (l : tie.At-loop Inv-loop μ-loop) where
   abbrev i : ℕ
   i = l .loop .i
 
-  all-read : digits (drop i line) ≡ 0 → DigitsRead line at i (l .loop .v)
-  all-read none =
+  read : (i ≡ at + digits (drop at line)) ⊎ (i ≡ at + 9) → DigitsRead line at i (l .loop .v)
+  read all-or-nine =
       record {
         after = l .loop .inv .0;
         among = omega (arith, l .loop .inv .3);
-        whole = inl (omega (arith, l .loop .inv .3));
+        whole = all-or-nine;
         spells = l .loop .inv .4;
       }
 
-  nine-read : i - at ≡ 9 → DigitsRead line at i (l .loop .v)
-  nine-read nine =
-      record {
-        after = l .loop .inv .0;
-        among = omega (arith, l .loop .inv .3);
-        whole = inr (omega (arith, l .loop .inv .0));
-        spells = l .loop .inv .4;
-      }
+  all-read : digits (drop i line) ≡ 0 → DigitsRead line at i (l .loop .v)
+  all-read none = read (inl (omega (arith, l .loop .inv .3)))
 
 returns : tie.Need-returns Inv-loop μ-loop
 returns c =
@@ -74,7 +68,9 @@ sub-if2 : tie.Need-sub-if2 Inv-loop μ-loop
 sub-if2 c = omega arith
 
 returns-2 : tie.Need-returns-2 Inv-loop μ-loop
-returns-2 c = nine-read (c .before .before .before .before .before) (c .if2 .taken)
+returns-2 c =
+    let l = c .before .before .before .before .before in
+    read l (inr (omega (arith, l .loop .inv .0, c .if2 .taken)))
 
 -- the byte at i is a digit, and what was read leaves room for it
 module _ (c : tie.Else2 Inv-loop μ-loop) where
