@@ -14,6 +14,5 @@ cases =
       aboveHigh = refl;
       distanceUp = refl;
       distanceDown = refl;
-      beforeFive = refl;
       fromFive = refl;
     }

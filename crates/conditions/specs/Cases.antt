@@ -3,7 +3,7 @@ use mathlib.Core.Path.{_≡_}
 use mathlib.Core.Bool.{true, false}
 use mathlib.Core.List.{[], _∷_}
 use Rattle.conditions.specs.Ranges.{within, distance}
-use Rattle.conditions.specs.Rows.{first, before, from, applies}
+use Rattle.conditions.specs.Rows.{first, from, applies}
 
 pub record Cases : Type 0 where
   -- the first row that applies is taken, though a later one applies too; where none applies, the number given
@@ -18,6 +18,5 @@ pub record Cases : Type 0 where
   -- a distance is the same either way
   pub distanceUp : distance 3 5 ≡ 2
   pub distanceDown : distance 5 3 ≡ 2
-  -- the parts of a table by the number of a row
-  pub beforeFive : before 5 ((false, 3) ∷ (true, 5) ∷ (true, 4) ∷ []) ≡ (false, 3) ∷ []
+  -- the part of a table from the row of a number on
   pub fromFive : from 5 ((false, 3) ∷ (true, 5) ∷ (true, 4) ∷ []) ≡ (true, 5) ∷ (true, 4) ∷ []

@@ -15,11 +15,7 @@ abbrev pub first : List Row → ℕ → ℕ
 first [] otherwise = otherwise
 first (row ∷ rows) otherwise = cond (row .0) (row .1) (first rows otherwise)
 
--- the rows before that of this number, and those from it on
-abbrev pub before : ℕ → List Row → List Row
-before number [] = []
-before number (row ∷ rows) = cond (eqb (row .1) number) [] (row ∷ before number rows)
-
+-- the rows from that of this number on
 abbrev pub from : ℕ → List Row → List Row
 from number [] = []
 from number (row ∷ rows) = cond (eqb (row .1) number) (row ∷ rows) (from number rows)
