@@ -9,6 +9,7 @@ use lib.Dec.{eqb}
 use lib.ListN.{length, take}
 use Rattle.buffers.specs.Bytes.{put}
 use Rattle.buffers.proofs.Lists.{take-put}
+use Rattle.conditions.proofs.Rows.{first-is, none-is}
 use Rattle.statistics.specs.Spread.{Test, total, deviationOf}
 use Rattle.statistics.specs.declared.SampleSize.{SampleSize}
 use Rattle.statistics.specs.declared.SampleSize.the-variants.{Absent}
@@ -18,6 +19,7 @@ use Rattle.cumsum.specs.Marks.{mark}
 use Rattle.year.specs.declared.Figures.{Figures}
 use Rattle.year.specs.Setup.{Pollutant, Hcnox, Co}
 use Rattle.year.specs.Replay.{Progress, replay, history}
+use Rattle.year.specs.Verdict.{verdictRows, verdict}
 use Rattle.year.specs.Status.{early, sizeOf, figures, status}
 use Rattle.year.specs.Model.{noSetup}
 use Rattle.year.proofs.Replayed.{history-length}
@@ -137,7 +139,7 @@ handed-back form journal out = by (eqb (refusalOn (Ask (Write form (length out))
     by false = refl
 
 pub demand-2 : Demand2
-unfolding outAfter
+unfolding outAfter verdict
 demand-2 =
     record {
       setUp = λ s journal. accepted-reads (SetUp s) journal;
@@ -146,6 +148,9 @@ demand-2 =
       held = after-year;
       shown = λ call journal s es h e. rw (accepted-answer call journal h, e) (shows (replay s es));
       answered = answered;
+      verdictOrder = λ k p. refl;
+      verdictFirst = λ k p v. first-is (verdictRows k p) v 1;
+      verdictElse = λ k p. none-is (verdictRows k p) 1;
       marks = λ journal out s es e h.
           accepted-gives (Ask (Write Marks (length out))) journal (put out 0 (outBytes Marks (readJournal journal))) out h ∙ rw e;
       handedBack = handed-back;

@@ -6,6 +6,7 @@ use mathlib.Core.List.{List, [], _∷_, map}
 use Prim.Native.Nat.{ℕ, _≤_, _<_}
 use lib.ListN.{length, take}
 use Rattle.buffers.specs.Bytes.{put}
+use Rattle.conditions.specs.Rows.{Row, FirstApplies, NoneApplies}
 use Rattle.statistics.specs.Spread.{total, deviationOf}
 use Rattle.statistics.specs.SampleSize.{sampleSizeOf}
 use Rattle.cumsum.specs.Intervals.{cumsum, actionLimit}
@@ -16,7 +17,7 @@ use Rattle.year.specs.declared.Figures.{Figures}
 use Rattle.year.specs.declared.Status.{Status}
 use Rattle.year.specs.Setup.{Pollutant, Hcnox, Co}
 use Rattle.year.specs.Replay.{Progress, replay, history}
-use Rattle.year.specs.Verdict.{verdict}
+use Rattle.year.specs.Verdict.{verdictRows, verdict}
 use Rattle.year.specs.Status.{blank, yearMarks}
 use Rattle.year.specs.Admissible.{admissible}
 use Rattle.year.specs.Model.{Year, noSetup}
@@ -62,6 +63,10 @@ pub record Demand2 : Type 0 where
   pub shown : (call : Call) (journal : List ℕ) (s : Setup) (es : List Event) → refusalOn call journal ≡ 0 → readJournal (journalAfter call journal) ≡ Year s es
       → Shows (outcomeOf (answer call journal) .status) (replay s es)
   pub answered : (call : Call) (journal : List ℕ) → refusalOn call journal ≡ 0 → answer call journal ≡ answer (Ask ReadStatus) (journalAfter call journal)
+  -- the verdict (document 01, "Verdict"): "The first that applies", in this order; where none does, 1
+  pub verdictOrder : (k : ℕ) (p : Progress) → map (λ (row : Row). row .1) (verdictRows k p) ≡ 7 ∷ 6 ∷ 5 ∷ 0 ∷ 2 ∷ 3 ∷ 4 ∷ []
+  pub verdictFirst : (k : ℕ) (p : Progress) (v : ℕ) → FirstApplies (verdictRows k p) v → verdict k p ≡ v
+  pub verdictElse : (k : ℕ) (p : Progress) → NoneApplies (verdictRows k p) → verdict k p ≡ 1
   -- what is written: the marks, at the front of the output
   pub marks : (journal out : List ℕ) (s : Setup) (es : List Event) → readJournal journal ≡ Year s es → refusalOn (Ask (Write Marks (length out))) journal ≡ 0
       → outAfter Marks journal out ≡ put out 0 (map markByte (yearMarks 1024 (replay s es)))

@@ -11,6 +11,17 @@ cases =
       rounds1001500 = refl;
       meanOf800And801 = refl;
       fiftyUnder1050 = refl;
+      rounds1000499 = refl;
+      rounds1000501 = refl;
+      meansOfThree = refl;
       eachReadingRounded = refl;
       fiftyAnd1500 = refl;
+      nothingAdded = refl;
+      timesOne = refl;
+      counts = refl;
+      readings = refl;
+      addedFactors = refl;
+      multipliedFactors = refl;
+      otherKind = refl;
+      results = refl;
     }

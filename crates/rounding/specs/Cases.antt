@@ -1,14 +1,18 @@
--- Worked cases of rounding. The first four are document 01's, "Cases on the edges", starred; the last two tell rounding at each step from
--- rounding once at the end, and an added factor from a multiplied one.
+-- Worked cases of rounding, and the ends of each range. The first four are document 01's, "Cases on the edges", starred.
 use mathlib.Core.Path.{_≡_}
-use mathlib.Core.List.{[], _∷_}
+use mathlib.Core.Bool.{true, false}
+use mathlib.Core.List.{[], _∷_, map}
 use Prim.Native.Nat.{ℕ}
 use Rattle.rounding.specs.declared.Factor.{Factor}
-use Rattle.rounding.specs.Result.{rounded, mean, factored, resultOf}
+use Rattle.rounding.specs.Result.{rounded, mean, factored, resultOf, countInRange, readingInRange, factorInRange, resultInRange}
 
--- a factor that changes nothing: kind 0, adding 0
+-- a factor that is added, and one that is multiplied by
+abbrev pub added : ℕ → Factor
+added value = record { kind = 0; value = value }
+
+-- a factor that changes nothing
 abbrev pub noFactor : Factor
-noFactor = record { kind = 0; value = 0 }
+noFactor = added 0
 
 abbrev pub multiplied : ℕ → Factor
 multiplied value = record { kind = 1; value = value }
@@ -21,7 +25,24 @@ pub record Cases : Type 0 where
   pub meanOf800And801 : mean (800 ∷ 801 ∷ []) ≡ 800
   -- * 50 under factor 1,050 of kind 1 is 52
   pub fiftyUnder1050 : factored (multiplied 1050) 50 ≡ 52
+  -- just below a half, and just above
+  pub rounds1000499 : rounded 1000499 ≡ 1000
+  pub rounds1000501 : rounded 1000501 ≡ 1001
+  -- a third is below a half and two thirds are above
+  pub meansOfThree : map mean ((1 ∷ 1 ∷ 2 ∷ []) ∷ (1 ∷ 2 ∷ 2 ∷ []) ∷ []) ≡ 1 ∷ 2 ∷ []
   -- readings 1,500 and 600 are 2 and 1, whose mean is 2; rounded once at the end they would be 1
   pub eachReadingRounded : resultOf noFactor (1500 ∷ 600 ∷ []) ≡ 2
   -- kind 0 adds 1,500 thousandths to 50: 51.5 is rounded to 52
-  pub fiftyAnd1500 : factored (record { kind = 0; value = 1500 }) 50 ≡ 52
+  pub fiftyAnd1500 : factored (added 1500) 50 ≡ 52
+  -- nothing added, and a factor of 1,000 thousandths, leave the largest result as it is
+  pub nothingAdded : factored noFactor 20000 ≡ 20000
+  pub timesOne : factored (multiplied 1000) 20000 ≡ 20000
+  -- "An engine has 1 to 3 readings for each pollutant, each 0 to 20,000,000."
+  pub counts : map countInRange (0 ∷ 1 ∷ 3 ∷ 4 ∷ []) ≡ false ∷ true ∷ true ∷ false ∷ []
+  pub readings : map readingInRange (0 ∷ 20000000 ∷ 20000001 ∷ []) ≡ true ∷ true ∷ false ∷ []
+  -- "Kind 0 adds 0 to 60,000; kind 1 multiplies by 1,000 to 60,000."
+  pub addedFactors : map (λ (v : ℕ). factorInRange (added v)) (0 ∷ 60000 ∷ 60001 ∷ []) ≡ true ∷ true ∷ false ∷ []
+  pub multipliedFactors : map (λ (v : ℕ). factorInRange (multiplied v)) (999 ∷ 1000 ∷ 60000 ∷ 60001 ∷ []) ≡ false ∷ true ∷ true ∷ false ∷ []
+  pub otherKind : factorInRange (record { kind = 2; value = 1000 }) ≡ false
+  -- "The result X is at most 20,000."
+  pub results : map resultInRange (0 ∷ 20000 ∷ 20001 ∷ []) ≡ true ∷ true ∷ false ∷ []

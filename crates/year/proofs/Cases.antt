@@ -15,10 +15,7 @@ use Rattle.year.specs.Admissible.{closed, admissible}
 use Rattle.year.specs.Cases.{Cases}
 use Rattle.year.specs.StarredCases.{StarredCases}
 
--- 998, 1,071, 926
-of-998-1071-926 : deviation 1024 3 31538 ≡ exactly 74240 1
-of-998-1071-926 = deviation-unique 1024 3 31538 (lit≤ tt) 74240 (lit≤ tt) (lit< tt)
-
+-- 998, 1,071, 926 at m = 8
 of-998-1071-926-finer : deviation 8192 3 31538 ≡ exactly 593924 1
 of-998-1071-926-finer = deviation-unique 8192 3 31538 (lit≤ tt) 593924 (lit≤ tt) (lit< tt)
 
@@ -68,7 +65,7 @@ cases =
       verdictOfOne = refl;
       verdictOfTwo = simp (statistics.cases .deviationAt1024, deviation-none);
       verdictDeclared = refl;
-      verdictUndecided = simp (statistics.cases .deviationAt1024, of-998-1071-926, deviation-none);
+      verdictUndecided = simp (statistics.cases .deviationAt1024, statistics.cases .deviationOfThree, deviation-none);
       verdictSettled = simp (statistics.cases .deviationAt8192, of-998-1071-926-finer, deviation-none);
       marksAt8 = simp (statistics.cases .deviationAt8192, deviation-none);
       cumsumAt8 = rw (statistics.cases .deviationAt8192);
@@ -82,8 +79,6 @@ cases =
       sizeAmended = refl;
       testsAmended = refl;
       statusOfOne = refl;
-      fortyFull = refl;
-      thirtyNineNotFull = refl;
       nAmended = refl;
       failedIsClosed = simp deviation-none;
       threeIsValid = simp deviation-none;

@@ -15,17 +15,20 @@ use Rattle.year.specs.declared.Event.the-variants.{Engine, Amendment, Ne
 use Rattle.year.specs.Setup.{Hcnox, Co}
 use Rattle.year.specs.Replay.{Progress, replay, history}
 use Rattle.year.specs.Verdict.{verdict, onePercent}
-use Rattle.year.specs.Admissible.{enginesFull, valid}
+use Rattle.year.specs.Admissible.{valid}
 use Rattle.year.specs.Status.{blank, status, yearMarks}
 use Rattle.year.specs.Work.{atEngine, marksAt, verdictAt, cumsumAt, limitAt}
 
 abbrev pub pair : ℕ → ℕ → Pair
 pair hcnox co = record { hcnox = hcnox; co = co }
 
--- projected volume P over 365 days, the HC+NOx standard, a CO standard of 6,100, and factors that change nothing
+-- projected volume P over 365 days, the standards, and factors that change nothing
+abbrev pub setupUnder : ℕ → Pair → Setup
+setupUnder volume standards = record { volume = volume; days = 365; standards = standards; factors = record { hcnox = noFactor; co = noFactor } }
+
+-- the same with an HC+NOx standard, and 6,100 for CO
 abbrev pub setupOf : ℕ → ℕ → Setup
-setupOf volume standard =
-    record { volume = volume; days = 365; standards = pair standard 6100; factors = record { hcnox = noFactor; co = noFactor } }
+setupOf volume standard = setupUnder volume (pair standard 6100)
 
 -- an engine of one reading each, with CO 5,000
 abbrev pub engine : ℕ → ℕ → Event
@@ -84,9 +87,6 @@ pub record Cases : Type 0 where
       ≡ record { result = 900; standard = 700 } ∷ record { result = 998; standard = 800 } ∷ []
   -- with one engine only n, S and the verdict are shown
   pub statusOfOne : status 1024 (replay (setupOf 5000 800) (engine 1 998 ∷ [])) ≡ record { n = 1; verdict = 0; hcnox = blank 998; co = blank 5000 }
-  -- forty engines are full, thirty-nine are not
-  pub fortyFull : enginesFull (replay (setupOf 5000 800) (enginesTo 40)) ≡ true
-  pub thirtyNineNotFull : enginesFull (replay (setupOf 5000 800) (enginesTo 39)) ≡ false
   -- n counts engines, not events
   pub nAmended : status 1024 (replay (setupOf 5000 800) (Amendment (pair 700 6100) ∷ engine 1 998 ∷ [])) .n ≡ 1
   -- nothing follows a failure, no number comes twice, and no period follows a short one

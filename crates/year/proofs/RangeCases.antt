@@ -1,0 +1,33 @@
+-- The ends of each range: each is computed.
+use mathlib.Core.Path.{refl}
+use Rattle.year.specs.Periods.{periods, needs}
+use Rattle.year.specs.RangeCases.{RangeCases}
+
+pub range-cases : RangeCases
+unfolding periods needs
+range-cases =
+    record {
+      volumes = refl;
+      days = refl;
+      hcnoxStandards = refl;
+      coStandards = refl;
+      setupStandards = refl;
+      hcnoxFactors = refl;
+      coFactors = refl;
+      periodsByVolume = refl;
+      periodsByDays = refl;
+      neededEngines = refl;
+      numbers = refl;
+      hcnoxResults = refl;
+      coResults = refl;
+      engineFits = refl;
+      numberFits = refl;
+      resultFits = refl;
+      amendmentFits = refl;
+      engines = refl;
+      engineOf41 = refl;
+      events = refl;
+      lastOfTwo = refl;
+      periodFits = refl;
+      periodFitsNoMore = refl;
+    }
