@@ -1,5 +1,4 @@
--- Worked cases of the calls: each refusal but 14 (`year`'s cases have forty engines), some together with the next in order, and what accepted and refused
--- calls leave.
+-- Worked cases of the calls: each refusal, some together with the next in order, and what accepted and refused calls leave.
 -- Lists of events and of calls have the newest first.
 use mathlib.Core.Path.{_≡_}
 use mathlib.Core.Bool.{true, false}
@@ -13,9 +12,8 @@ use Rattle.year.specs.declared.Pair.{Pair}
 use Rattle.year.specs.declared.Setup.{Setup}
 use Rattle.year.specs.declared.Event.{Event}
 use Rattle.year.specs.declared.Event.the-variants.{Engine, Amendment, NextPeriod, Declaration}
-use Rattle.year.specs.Status.{blank}
 use Rattle.year.specs.Model.{Model, NoSetup, Year}
-use Rattle.year.specs.Cases.{pair, setupOf, engine, three}
+use Rattle.year.specs.Cases.{pair, setupOf, engine, enginesTo, onlySum, three}
 use Rattle.journal.specs.Encode.{encode}
 use Rattle.reference.specs.declared.Answer.the-variants.{Accepted, Refused}
 use Rattle.reference.specs.declared.Change.{Change}
@@ -91,6 +89,8 @@ pub record Cases : Type 0 where
   pub readingCo : refusal 544 (entering 1 (1 ∷ []) (20001000 ∷ [])) (yearOf []) ≡ 12
   -- 13: 20,000 and 60 more
   pub result : refusal 544 (entering 1 (20000000 ∷ []) (1 ∷ [])) (Year (setupWith 5000 (pair 800 6100) (record { kind = 0; value = 60000 })) []) ≡ 13
+  -- 14: a forty-first engine
+  pub engineOf41 : refusal 544 (entering 41 (1 ∷ []) (1 ∷ [])) (yearOf (enginesTo 40)) ≡ 14
   -- 15, in a short period, and in the last
   pub periodShort : refusal 544 (changing BeginPeriod) (yearOf (engine 1 998 ∷ [])) ≡ 15
   pub periodLast : refusal 544 (changing BeginPeriod) (Year (setupOf 1500 1000) (engine 2 1000 ∷ engine 1 1000 ∷ [])) ≡ 15
@@ -106,7 +106,7 @@ pub record Cases : Type 0 where
   pub setupAnswer : answer newYear (zeros 544) ≡ Accepted noStatus
   pub entryWrites : journalAfter engineOne (encode (setupOf 5000 800) []) ≡ encode (setupOf 5000 800) (engine 1 998 ∷ [])
   -- the status that an entry gives is that of the journal that it leaves: one engine, short, S 998 and 5,000
-  pub entryAnswer : answer engineOne (encode (setupOf 5000 800) []) ≡ Accepted (record { n = 1; verdict = 0; hcnox = blank 998; co = blank 5000 })
+  pub entryAnswer : answer engineOne (encode (setupOf 5000 800) []) ≡ Accepted (record { n = 1; verdict = 0; hcnox = onlySum 998; co = onlySum 5000 })
   -- marks at the front of the output, the rest of it as it was; refused, all of it as it was
   pub marksWritten : outAfter Marks (encode (setupOf 5000 800) (engine 1 998 ∷ [])) (1 ∷ 2 ∷ 3 ∷ []) ≡ 45 ∷ 45 ∷ 3 ∷ []
   pub marksHandedBack : outPart Marks (encode (setupOf 5000 800) (engine 1 998 ∷ [])) (1 ∷ 2 ∷ 3 ∷ []) ≡ 45 ∷ 45 ∷ []

@@ -19,6 +19,13 @@ use Rattle.year.specs.StarredCases.{StarredCases}
 of-998-1071-926-finer : deviation 8192 3 31538 ≡ exactly 593924 1
 of-998-1071-926-finer = deviation-unique 8192 3 31538 (lit≤ tt) 593924 (lit≤ tt) (lit< tt)
 
+-- 2,367, 3,236 and then 1,499
+of-2367-3236 : deviation 1024 2 755161 ≡ exactly 629223 1
+of-2367-3236 = deviation-unique 1024 2 755161 (lit≤ tt) 629223 (lit≤ tt) (lit< tt)
+
+of-2367-3236-1499 : deviation 1024 3 4525754 ≡ exactly 889344 1
+of-2367-3236-1499 = deviation-unique 1024 3 4525754 (lit≤ tt) 889344 (lit≤ tt) (lit< tt)
+
 -- 23, 23, 83 and then 83
 of-23-23-83 : deviation 1024 3 7200 ≡ exactly 35472 1
 of-23-23-83 = deviation-unique 1024 3 7200 (lit≤ tt) 35472 (lit≤ tt) (lit< tt)
@@ -79,7 +86,10 @@ cases =
       sizeAmended = refl;
       testsAmended = refl;
       statusOfOne = refl;
+      statusOfNone = refl;
       nAmended = refl;
+      openAt1024 = simp (of-2367-3236, of-2367-3236-1499, deviation-none);
+      declaredIsClosed = refl;
       failedIsClosed = simp deviation-none;
       threeIsValid = simp deviation-none;
       numberTwice = refl;

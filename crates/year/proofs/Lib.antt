@@ -1,6 +1,6 @@
 pub mod Cases
-pub mod RangeCases
-pub mod VerdictCases
+pub mod CasesOfRanges
+pub mod CasesOfVerdict
 pub mod Replayed
 pub mod Finer
 pub mod Valid

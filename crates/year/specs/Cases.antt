@@ -5,18 +5,19 @@ use mathlib.Core.Bool.{true, false}
 use mathlib.Core.List.{List, [], _∷_}
 use Prim.Native.Nat.{ℕ, zero, suc}
 use Rattle.rounding.specs.Cases.{noFactor}
-use Rattle.statistics.specs.declared.SampleSize.the-variants.{Tenths}
+use Rattle.statistics.specs.declared.SampleSize.the-variants.{Tenths, Absent}
 use Rattle.cumsum.specs.declared.Mark.the-variants.{Unmarked, Over, Under}
 use Rattle.cumsum.specs.Cases.{interval}
 use Rattle.year.specs.declared.Pair.{Pair}
 use Rattle.year.specs.declared.Setup.{Setup}
 use Rattle.year.specs.declared.Event.{Event}
+use Rattle.year.specs.declared.Figures.{Figures}
 use Rattle.year.specs.declared.Event.the-variants.{Engine, Amendment, NextPeriod, Declaration}
 use Rattle.year.specs.Setup.{Hcnox, Co}
 use Rattle.year.specs.Replay.{Progress, replay, history}
 use Rattle.year.specs.Verdict.{verdict, onePercent}
-use Rattle.year.specs.Admissible.{valid}
-use Rattle.year.specs.Status.{blank, status, yearMarks}
+use Rattle.year.specs.Admissible.{closed, valid}
+use Rattle.year.specs.Status.{status, yearMarks}
 use Rattle.year.specs.Work.{atEngine, marksAt, verdictAt, cumsumAt, limitAt}
 
 abbrev pub pair : ℕ → ℕ → Pair
@@ -38,6 +39,18 @@ engine number result = Engine number 1 (pair result 5000)
 abbrev pub enginesTo : ℕ → List Event
 enginesTo zero = []
 enginesTo (suc n) = engine (suc n) 800 ∷ enginesTo n
+
+-- figures of which all but S are zero, with no N and '-'
+abbrev pub onlySum : ℕ → Figures
+onlySum sum =
+    record {
+      sum = sum;
+      deviation = record { floor = 0; inexact = 0 };
+      cumsum = record { low = 0; high = 0 };
+      limit = record { low = 0; high = 0 };
+      size = Absent;
+      mark = Unmarked;
+    }
 
 -- T 800, X 998 then 1,071, P 5,000
 abbrev pub two : Progress
@@ -85,11 +98,15 @@ pub record Cases : Type 0 where
   -- and it is T for the engine after it
   pub testsAmended : history Hcnox (replay (setupOf 5000 800) (engine 2 900 ∷ Amendment (pair 700 6100) ∷ engine 1 998 ∷ []) .tested)
       ≡ record { result = 900; standard = 700 } ∷ record { result = 998; standard = 800 } ∷ []
-  -- with one engine only n, S and the verdict are shown
-  pub statusOfOne : status 1024 (replay (setupOf 5000 800) (engine 1 998 ∷ [])) ≡ record { n = 1; verdict = 0; hcnox = blank 998; co = blank 5000 }
+  -- "Before engine 2 the figures other than n, S and verdict are zero and N is absent; with no engine the mark is '-'": with one engine, and with none
+  pub statusOfOne : status 1024 (replay (setupOf 5000 800) (engine 1 998 ∷ [])) ≡ record { n = 1; verdict = 0; hcnox = onlySum 998; co = onlySum 5000 }
+  pub statusOfNone : status 1024 (replay (setupOf 5000 800) []) ≡ record { n = 0; verdict = 0; hcnox = onlySum 0; co = onlySum 0 }
   -- n counts engines, not events
   pub nAmended : status 1024 (replay (setupOf 5000 800) (Amendment (pair 700 6100) ∷ engine 1 998 ∷ [])) .n ≡ 1
-  -- nothing follows a failure, no number comes twice, and no period follows a short one
+  -- "The verdict is 6 or 7" is asked at 1,024. T 10, X 2,367, 3,236, 1,499: marks '-', '?', 'O' there, so the year is open; at 1,023 and at 1,025 they would be '-', 'O', 'O'
+  pub openAt1024 : closed (replay (setupOf 5000 10) (engine 3 1499 ∷ engine 2 3236 ∷ engine 1 2367 ∷ [])) ≡ false
+  -- nothing follows a declaration or a failure, no number comes twice, and no period follows a short one
+  pub declaredIsClosed : valid (setupOf 5000 800) (engine 1 998 ∷ Declaration ∷ []) ≡ false
   pub failedIsClosed : valid (setupOf 5000 100) (NextPeriod ∷ three) ≡ false
   pub threeIsValid : valid (setupOf 5000 100) three ≡ true
   pub numberTwice : valid (setupOf 5000 1000) (engine 1 900 ∷ engine 1 800 ∷ []) ≡ false

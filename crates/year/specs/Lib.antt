@@ -10,5 +10,5 @@ pub mod Work
 pub mod FinerWork
 pub mod Cases
 pub mod StarredCases
-pub mod RangeCases
-pub mod VerdictCases
+pub mod CasesOfRanges
+pub mod CasesOfVerdict

@@ -21,11 +21,11 @@ div-r c = omega arith
 add-r : tie.Need-add-r Inv-loop μ-loop
 add-r c = omega (arith, div-le-self (c .args .x) (c .args .guess))
 
-div-q : tie.Need-div-q Inv-loop μ-loop
-div-q c = let a = c .args in guess-positive (a .x) ((a .guess + a .x / a .guess) / 2) (c .pre .0) (newton-above (a .x) (a .guess) (c .pre .2))
-
 loop-holds : tie.Need-loop-holds Inv-loop μ-loop
 loop-holds c = let a = c .args in (newton-above (a .x) (a .guess) (c .pre .2), refl, omega (arith, div-le-self (a .x) (a .guess)))
+
+div-q : tie.Need-div-q Inv-loop μ-loop
+div-q c = let a = c .args in guess-positive (a .x) ((a .guess + a .x / a .guess) / 2) (c .pre .0) (newton-above (a .x) (a .guess) (c .pre .2))
 
 add-r-2 : tie.Need-add-r-2 Inv-loop μ-loop
 add-r-2 c = omega arith

@@ -1,11 +1,11 @@
 -- The ends of each range: each is computed.
 use mathlib.Core.Path.{refl}
 use Rattle.year.specs.Periods.{periods, needs}
-use Rattle.year.specs.RangeCases.{RangeCases}
+use Rattle.year.specs.CasesOfRanges.{CasesOfRanges}
 
-pub range-cases : RangeCases
+pub cases-of-ranges : CasesOfRanges
 unfolding periods needs
-range-cases =
+cases-of-ranges =
     record {
       volumes = refl;
       days = refl;

@@ -27,7 +27,7 @@ factoring hcnox co = record { volume = 5000; days = 365; standards = pair 800 61
 abbrev toPeriod2 : List Event
 toPeriod2 = NextPeriod ∷ engine 2 800 ∷ engine 1 800 ∷ []
 
-pub record RangeCases : Type 0 where
+pub record CasesOfRanges : Type 0 where
   -- "Projected volume P is 1 to 99,999,999, production days D 1 to 366."
   pub volumes : map (λ (p : ℕ). setupInRange (producing p 365)) (0 ∷ 1 ∷ 99999999 ∷ 100000000 ∷ []) ≡ false ∷ true ∷ true ∷ false ∷ []
   pub days : map (λ (d : ℕ). setupInRange (producing 5000 d)) (0 ∷ 1 ∷ 366 ∷ 367 ∷ []) ≡ false ∷ true ∷ true ∷ false ∷ []

@@ -16,7 +16,7 @@ threeWith first second third event = event 3 third ∷ event 2 second ∷ event 
 abbrev coOnly : ℕ → ℕ → Event
 coOnly number result = Engine number 1 (pair 800 result)
 
-pub record VerdictCases : Type 0 where
+pub record CasesOfVerdict : Type 0 where
   -- 7 before 6: a declaration is told of a year that has failed; and before 0
   pub declaredFailed : verdict 1024 (replay (setupOf 5000 100) (Declaration ∷ three)) ≡ 7
   pub declaredShort : verdict 1024 (replay (setupOf 5000 800) (Declaration ∷ [])) ≡ 7
