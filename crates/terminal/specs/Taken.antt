@@ -1,13 +1,36 @@
--- What is kept of a piece of the input (protocol, specs/Console).
+-- What is kept of the input (protocol, specs/Console). No contract can say what a read brings, nor whether a write is taken.
 use mathlib.Core.Path.{_≡_}
-use mathlib.Core.List.{List}
-use Prim.Native.Nat.{ℕ}
+use mathlib.Core.Logic.{_⊎_}
+use mathlib.Core.Bool.{Bool, true, false}
+use mathlib.Core.List.{List, []}
+use Prim.Native.Nat.{ℕ, zero, suc}
+use lib.ListN.{take}
+use Rattle.buffers.specs.Bytes.{zeros}
+use Rattle.protocol.specs.Run.{linesOf, journalAfterLines}
 use Rattle.protocol.specs.Console.{heldAfter, journalPast}
-use Rattle.terminal.specs.declared.Next.{Next}
-use Rattle.terminal.specs.declared.Next.the-variants.{More, Ended, Closed}
 
--- every byte of a piece was taken, in order, unless the output is closed: the line held after it, and the journal
-abbrev pub Taken : Next → List ℕ → List ℕ → List ℕ → List ℕ → List ℕ → Type 0
-Taken More piece line journal held left = (held ≡ heldAfter piece line) × (left ≡ journalPast piece line journal)
-Taken Ended piece line journal held left = Unit {0}
-Taken Closed piece line journal held left = Unit {0}
+-- bytes were taken, each once and in order, after a line and a journal: the line that is then held, and the journal that is left
+pub record Kept (bytes line journal held left : List ℕ) : Type 0 where
+  pub holds : held ≡ heldAfter bytes line
+  pub leaves : left ≡ journalPast bytes line journal
+
+-- a piece of the input, all that one read brought: each of its bytes was taken, or, where the output is closed, some front of them
+abbrev pub Taken : Bool → List ℕ → List ℕ → List ℕ → List ℕ → List ℕ → Type 0
+Taken true piece line journal held left = Kept piece line journal held left
+Taken false piece line journal held left = (count : ℕ) × Kept (take count piece) line journal held left
+
+-- the piece of the last read was taken after what the reads before it brought; nothing, where none may follow the first
+pub record Fetched (most : ℕ) (all : Bool) (piece line journal held left : List ℕ) : Type 0 where
+  pub before : List ℕ
+  pub first : most ≡ 0 → before ≡ []
+  pub last : Taken all piece (heldAfter before line) (journalPast before line journal) held left
+
+-- why no further read was made: the last one brought no byte, so that the input has ended; no more may follow; or the output is closed
+abbrev pub Stopped : Bool → ℕ → ℕ → Type 0
+Stopped all got more = (got ≡ 0) ⊎ ((more ≡ 0) ⊎ (all ≡ false))
+
+-- a run over some input, from the start that document 01 names, by how many bytes its last read brought. Where that is none every line is answered, the last one with
+-- or without newline
+abbrev pub Answered : ℕ → List ℕ → List ℕ → Type 0
+Answered zero held left = (input : List ℕ) × (held ≡ heldAfter input []) × (left ≡ journalAfterLines (zeros 544) (linesOf input))
+Answered (suc _) held left = (input : List ℕ) × Kept input [] (zeros 544) held left
