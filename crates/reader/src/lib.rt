@@ -1,5 +1,5 @@
 // The reader of the key line: the number at a position.
-pub mod digits;
+mod digits;
 
 ghost use mathlib.Core.Path.{_≡_};
 ghost use Rattle.protocol.specs.Number.{numberAt, numberOutcomeOf, numberOutcome};
