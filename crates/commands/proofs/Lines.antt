@@ -14,7 +14,7 @@ use Rattle.protocol.specs.Reply.{commandReply, commandAfter, replyTo, journalAf
 use Rattle.numbers.specs.declared.Numbers.{Numbers}
 use Rattle.numbers.specs.declared.Numbers.the-variants.{Count, Refused}
 use Rattle.parser.specs.declared.Request.{Request}
-use Rattle.numbers.specs.Numbers.{counted, countOf, listed}
+use Rattle.numbers.specs.Numbers.{counted, listed, numbersOutcomeOf}
 use Rattle.parser.specs.Request.{commandFor, Requests}
 use Rattle.replies.specs.Replied.{Replied}
 
@@ -22,19 +22,15 @@ abbrev isCount : Numbers → Bool
 isCount (Count n) = true
 isCount (Refused number) = false
 
-abbrev refusalOf : Numbers → ℕ
-refusalOf (Count n) = 0
-refusalOf (Refused number) = number
-
 -- what was read, by the two cases of its answer
 read-some : (read : Option (List ℕ)) (numbers : Numbers) (count : ℕ) (values : List ℕ) → numbers ≡ counted read → numbers ≡ Count count
-    → take (countOf numbers) values ≡ listed read → read ≡ some (take count values)
+    → take (numbersOutcomeOf numbers .count) values ≡ listed read → read ≡ some (take count values)
 read-some (some vs) numbers count values e k t = ap some (sym t ∙ rw k)
 read-some none numbers count values e k t = absurd (true≢false (ap isCount (sym k ∙ e)))
 
 read-none : (read : Option (List ℕ)) (numbers : Numbers) (number : ℕ) → numbers ≡ counted read → numbers ≡ Refused number → (read ≡ none) × (number ≡ 2)
 read-none (some vs) numbers number e k = absurd (true≢false (ap isCount (sym e ∙ k)))
-read-none none numbers number e k = (refl, ap refusalOf (sym k ∙ e))
+read-none none numbers number e k = (refl, ap (λ n. numbersOutcomeOf n .refusal) (sym k ∙ e))
 
 -- the command of a line that is done
 pub by-line : (line journal out left after : List ℕ) (r : ℕ) (command : Command) → command ≡ commandOf line
@@ -53,7 +49,7 @@ module _ (line : List ℕ) where
     short = rw (le-ltb 64 (length line) few)
 
     pub requested-line : (numbers : Numbers) (count : ℕ) (values : List ℕ) (request : Request) → numbers ≡ counted read → numbers ≡ Count count
-        → take (countOf numbers) values ≡ listed read → Requests request (take count values) (callOf (getD line 0 0) (take count values))
+        → take (numbersOutcomeOf numbers .count) values ≡ listed read → Requests request (take count values) (callOf (getD line 0 0) (take count values))
         → commandFor request (take count values) ≡ commandOf line
     requested-line numbers count values request e k t asks =
         asks .command ∙ sym (short ∙ ap (λ o. asked (callFrom (getD line 0 0) o)) (read-some read numbers count values e k t))

@@ -19,7 +19,8 @@ use Rattle.protocol.specs.Number.{isNumber, numberAt}
 use Rattle.ascii.specs.Decimal.{isDigit, digits, spelt}
 use Rattle.protocol.specs.KeyLine.{spacedNumber, inFront, numbersFrom}
 use Rattle.reader.proofs.Spelling.{number-size}
-use Rattle.numbers.specs.Numbers.{numbersRead}
+use Rattle.numbers.specs.declared.Numbers.{Numbers}
+use Rattle.numbers.specs.Numbers.{counted, listed, numbersOutcomeOf, formRefusal, numbersOutcome, numbersRead}
 
 -- ---- where a number ends
 
@@ -142,3 +143,13 @@ module _ (line values : List ℕ) (at n : ℕ) (r : ReadTo line values at n) whe
           ends .1,
           r .2 ∙ rw (one-more v next e, add-one n, take-suc-set values n v room) (joined-next (take n values) v rest),
         )
+
+-- ---- what the answer tells in document 01's numbers
+
+told : (read : Option (List ℕ)) → numbersOutcomeOf (counted read) ≡ record { refusal = formRefusal read; count = length (listed read) }
+told (some vs) = refl
+told none = refl
+
+pub numbers-outcome : (line : List ℕ) (r : Numbers) → r ≡ counted (numbersFrom (length line) line 1) → numbersOutcomeOf r ≡ numbersOutcome line
+unfolding numbersOutcome
+numbers-outcome line r e = ap numbersOutcomeOf e ∙ told (numbersFrom (length line) line 1)

@@ -7,7 +7,7 @@ use lib.Dec.{eqb}
 use lib.ListN.{length}
 use Rattle.protocol.specs.declared.Number.{Number}
 use Rattle.protocol.specs.declared.Number.the-variants.{Value, Nothing}
-use Rattle.protocol.specs.KeyLine.{spacedNumber}
+use Rattle.protocol.specs.KeyLine.{spacedNumber, numbersFrom}
 use Rattle.numbers.specs.declared.Numbers.{Numbers}
 use Rattle.numbers.specs.declared.Numbers.the-variants.{Count, Refused}
 
@@ -21,10 +21,27 @@ abbrev pub listed : Option (List ℕ) → List ℕ
 listed (some vs) = vs
 listed none = []
 
--- how many values at the front were read
-abbrev pub countOf : Numbers → ℕ
-countOf (Count n) = n
-countOf (Refused number) = 0
+-- document 01's refusal number and figure for each case of the answer: "A refusal returns its number, every other figure of the answer zero" ("Refused calls, in
+-- checking order")
+pub record NumbersOutcome : Type 0 where
+  -- 0 for none
+  pub refusal : ℕ
+  -- how many there are
+  pub count : ℕ
+
+abbrev pub numbersOutcomeOf : Numbers → NumbersOutcome
+numbersOutcomeOf (Count n) = record { refusal = 0; count = n }
+numbersOutcomeOf (Refused number) = record { refusal = number; count = 0 }
+
+-- the same of a line: "a letter, then numbers, each after one space", or "2. The key line is not of the form above."
+abbrev pub formRefusal : Option (List ℕ) → ℕ
+formRefusal (some vs) = 0
+formRefusal none = 2
+
+unfoldable pub numbersOutcome : List ℕ → NumbersOutcome
+numbersOutcome line =
+    let read = numbersFrom (length line) line 1 in
+    record { refusal = formRefusal read; count = length (listed read) }
 
 -- the numbers that are read from a position on, up to the line's end or to where no number can be read
 abbrev pub andRead : Number → (ℕ → List ℕ) → List ℕ

@@ -3,8 +3,9 @@ ghost use mathlib.Core.Path.{_≡_};
 ghost use Prim.Native.Nat.{_≤_};
 ghost use lib.ListN.{length, take};
 ghost use Rattle.buffers.specs.Bytes.{put};
-ghost use Rattle.protocol.specs.KeyLine.{spacedNumber, numbersFrom};
-ghost use Rattle.numbers.specs.Numbers.{counted, countOf, listed, numbersRead};
+ghost use Rattle.protocol.specs.Number.{numberOutcomeOf};
+ghost use Rattle.protocol.specs.KeyLine.{spacedNumber, spacedOutcome, numbersFrom};
+ghost use Rattle.numbers.specs.Numbers.{counted, listed, numbersOutcomeOf, numbersOutcome, numbersRead};
 use protocol::Number;
 use reader::read_number;
 
@@ -17,6 +18,7 @@ pub enum Numbers {
 // A space at a position, and the number after it.
 pub fn spaced_number(line: &[u8], at: usize) -> Number
     ensures { λ r. ⌜ r ≡ spacedNumber (now (line .entry)) at ⌝ }
+    ensures { λ r. ⌜ numberOutcomeOf r ≡ spacedOutcome (now (line .entry)) at ⌝ }
 {
     if line.len() <= at {
         return Number::Nothing;
@@ -31,8 +33,9 @@ pub fn spaced_number(line: &[u8], at: usize) -> Number
 pub fn read_numbers(line: &[u8], values: &mut [u32]) -> Numbers
     requires { ⌜ (1 ≤ length (now line)) × (length (now line) ≤ 64) × (length (now values) ≡ 31) ⌝ }
     ensures { λ r. ⌜ r ≡ counted (numbersFrom (length (now (line .entry))) (now (line .entry)) 1) ⌝ }
-    ensures { λ r. ⌜ take (countOf r) (now (values .exit)) ≡ listed (numbersFrom (length (now (line .entry))) (now (line .entry)) 1) ⌝ }
-    ensures { λ r. ⌜ countOf r ≤ 31 ⌝ }
+    ensures { λ r. ⌜ numbersOutcomeOf r ≡ numbersOutcome (now (line .entry)) ⌝ }
+    ensures { λ r. ⌜ take (numbersOutcomeOf r .count) (now (values .exit)) ≡ listed (numbersFrom (length (now (line .entry))) (now (line .entry)) 1) ⌝ }
+    ensures { λ r. ⌜ numbersOutcomeOf r .count ≤ 31 ⌝ }
     ensures { λ _. ⌜ now (values .exit) ≡ put (now (values .entry)) 0 (numbersRead (length (now (line .entry))) (now (line .entry)) 1) ⌝ }
 {
     let mut at: usize = 1;

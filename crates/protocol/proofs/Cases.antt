@@ -1,14 +1,14 @@
 -- The worked cases of the key line.
 use mathlib.Core.Path.{refl}
-use Rattle.protocol.specs.Number.{isNumber, numberAt}
+use Rattle.protocol.specs.Number.{isNumber, numberAt, numberOutcome}
 use Rattle.ascii.specs.Decimal.{digits, spelt}
-use Rattle.protocol.specs.KeyLine.{spacedNumber, numbersFrom, callOf, commandOf}
+use Rattle.protocol.specs.KeyLine.{spacedNumber, spacedOutcome, numbersFrom, callOf, commandOf}
 use Rattle.ascii.specs.Decimal.{decimalUpTo, decimal}
 use Rattle.protocol.specs.Cases.{Cases}
 use Rattle.protocol.proofs.Run.{document-run}
 
 pub cases : Cases
-unfolding digits spelt isNumber numberAt spacedNumber numbersFrom callOf commandOf decimalUpTo decimal
+unfolding digits spelt isNumber numberAt numberOutcome spacedNumber spacedOutcome numbersFrom callOf commandOf decimalUpTo decimal
 cases =
     record {
       setup = refl;
@@ -33,6 +33,11 @@ cases =
       nineDigits = refl;
       leadingZero = refl;
       twoZeros = refl;
+      numberRead = refl;
+      numberRefused = refl;
+      spacedRead = refl;
+      spaceMissing = refl;
+      spacedRefused = refl;
       twoSpaces = refl;
       spaceAtEnd = refl;
       noSpace = refl;

@@ -1,3 +1,4 @@
+pub mod Outcomes
 pub mod Cases
 pub mod Run
 pub mod Steps

@@ -11,7 +11,8 @@ use Rattle.year.specs.declared.Figures.{Figures}
 use Rattle.year.specs.Cases.{pair, setupOf}
 use Rattle.reference.specs.Call.{EnterEngine, EnterChange, Marks, Write, SetUp, Enter, Ask}
 use Rattle.reference.specs.declared.Change.the-variants.{Amend, BeginPeriod, Declare}
-use Rattle.protocol.specs.KeyLine.{Make, Refuse, commandOf}
+use Rattle.protocol.specs.Number.{numberOutcome}
+use Rattle.protocol.specs.KeyLine.{spacedOutcome, Make, Refuse, commandOf}
 use Rattle.protocol.specs.Reply.{refusalReply, marksReply, statusReply}
 use Rattle.ascii.specs.Decimal.{decimal}
 use Rattle.protocol.specs.Run.{linesOf, run}
@@ -59,6 +60,12 @@ pub record Cases : Type 0 where
   pub nineDigits : commandOf (text "A 100000000 0") ≡ Refuse 2
   pub leadingZero : commandOf (text "A 0800 6100") ≡ Refuse 2
   pub twoZeros : commandOf (text "A 00 0") ≡ Refuse 2
+  -- a number at a position, and none, which is refused by 2 with every other figure zero
+  pub numberRead : numberOutcome (text "A 800 6100") 6 ≡ record { refusal = 0; value = 6100; next = 10 }
+  pub numberRefused : numberOutcome (text "A 0800 6100") 2 ≡ record { refusal = 2; value = 0; next = 0 }
+  pub spacedRead : spacedOutcome (text "A 800 6100") 1 ≡ record { refusal = 0; value = 800; next = 5 }
+  pub spaceMissing : spacedOutcome (text "A800 6100") 1 ≡ record { refusal = 2; value = 0; next = 0 }
+  pub spacedRefused : spacedOutcome (text "A 0800 6100") 1 ≡ record { refusal = 2; value = 0; next = 0 }
   -- exactly one space, and nothing else
   pub twoSpaces : commandOf (text "A 800  6100") ≡ Refuse 2
   pub spaceAtEnd : commandOf (text "A 800 6100 ") ≡ Refuse 2

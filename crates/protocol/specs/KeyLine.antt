@@ -1,5 +1,5 @@
 -- Document 01, "Key line": a letter, then numbers, each after one space; and the call that these make.
-use mathlib.Core.Bool.{cond}
+use mathlib.Core.Bool.{Bool, cond}
 use mathlib.Core.List.{List, [], _∷_}
 use mathlib.Core.Option.{Option, some, none}
 use Prim.Native.Nat.{ℕ, zero, suc, _+_, _/_, _%_}
@@ -12,11 +12,18 @@ use Rattle.reference.specs.declared.Change.{Change}
 use Rattle.reference.specs.declared.Change.the-variants.{Amend, BeginPeriod, Declare}
 use Rattle.protocol.specs.declared.Number.{Number}
 use Rattle.protocol.specs.declared.Number.the-variants.{Value, Nothing}
-use Rattle.protocol.specs.Number.{numberAt}
+use Rattle.protocol.specs.Number.{numberAt, NumberOutcome, numberOutcome}
 
 -- "numbers, each after one space": a space at a position, and the number after it
+abbrev pub spaceAt : List ℕ → ℕ → Bool
+spaceAt line position = eqb (getD line position 0) (byte " ")
+
 unfoldable pub spacedNumber : List ℕ → ℕ → Number
-spacedNumber line position = cond (eqb (getD line position 0) (byte " ")) (numberAt line (position + 1)) Nothing
+spacedNumber line position = cond (spaceAt line position) (numberAt line (position + 1)) Nothing
+
+-- the same in document 01's numbers: without the space, "2. The key line is not of the form above."
+unfoldable pub spacedOutcome : List ℕ → ℕ → NumberOutcome
+spacedOutcome line position = cond (spaceAt line position) (numberOutcome line (position + 1)) (record { refusal = 2; value = 0; next = 0 })
 
 -- a number in front of those that follow it, if they can be read; "if no number can be read there, the line is refused"
 abbrev pub inFront : ℕ → Option (List ℕ) → Option (List ℕ)

@@ -19,3 +19,23 @@ unfoldable pub numberAt : List ℕ → ℕ → Number
 numberAt line position =
     let count = digits (drop position line) in
     cond (isNumber line position count) (Value (spelt 0 (take count (drop position line))) (position + count)) Nothing
+
+-- document 01's refusal number and figures for each case of a number's answer: "if no number can be read there, the line is refused" ("Key line"); "2. The key line
+-- is not of the form above.", "A refusal returns its number, every other figure of the answer zero" ("Refused calls, in checking order")
+pub record NumberOutcome : Type 0 where
+  -- 0 for none
+  pub refusal : ℕ
+  pub value : ℕ
+  -- "the position of the next byte"
+  pub next : ℕ
+
+abbrev pub numberOutcomeOf : Number → NumberOutcome
+numberOutcomeOf (Value value next) = record { refusal = 0; value = value; next = next }
+numberOutcomeOf Nothing = record { refusal = 2; value = 0; next = 0 }
+
+-- the same of a position of a line
+unfoldable pub numberOutcome : List ℕ → ℕ → NumberOutcome
+numberOutcome line position =
+    let count = digits (drop position line) in
+    let readable = isNumber line position count in
+    record { refusal = cond readable 0 2; value = cond readable (spelt 0 (take count (drop position line))) 0; next = cond readable (position + count) 0 }

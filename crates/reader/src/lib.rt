@@ -1,8 +1,8 @@
 // The reader of the key line: the number at a position.
-pub mod digits;
+mod digits;
 
 ghost use mathlib.Core.Path.{_≡_};
-ghost use Rattle.protocol.specs.Number.{numberAt};
+ghost use Rattle.protocol.specs.Number.{numberAt, numberOutcomeOf, numberOutcome};
 use crate::digits::number_at;
 use protocol::Number;
 
@@ -21,6 +21,7 @@ pub fn new<'a>(line: &'a [u8], at: usize) -> Reader<'a>
 // The number at the reader's position.
 pub fn next_number<'a>(r: Reader<'a>) -> Number
     ensures { λ n. ⌜ n ≡ numberAt (now (r .entry .line)) (r .entry .at) ⌝ }
+    ensures { λ n. ⌜ numberOutcomeOf n ≡ numberOutcome (now (r .entry .line)) (r .entry .at) ⌝ }
 {
     number_at(r.line, r.at)
 }
@@ -28,6 +29,7 @@ pub fn next_number<'a>(r: Reader<'a>) -> Number
 // The number at a position of a line, through a reader: for callers that hold none.
 pub fn read_number(line: &[u8], at: usize) -> Number
     ensures { λ r. ⌜ r ≡ numberAt (now (line .entry)) at ⌝ }
+    ensures { λ r. ⌜ numberOutcomeOf r ≡ numberOutcome (now (line .entry)) at ⌝ }
 {
     next_number(new(line, at))
 }

@@ -30,7 +30,7 @@ module _ (read : tie.After-count) where
   count = read .count .given .0 .0
 
   few : count ≤ length (called .read-numbers .last .1 .0)
-  few = let most = called .read-numbers .ensures .1 .1 .0 in omega (arith, rw (read .count .given .1) at most, called .read-numbers .kept)
+  few = let most = called .read-numbers .ensures .1 .1 .1 .0 in omega (arith, rw (read .count .given .1) at most, called .read-numbers .kept)
 
 array-share-prefix-values : tie.Need-array-share-prefix-values
 array-share-prefix-values c = few (c .before .before)
@@ -69,7 +69,7 @@ returns c =
     let read = asked .before .before .before .before in
     let start = read .before .before .before .before .before .before .before .before in
     let e = called read .read-numbers .ensures in
-    let is = requested-line (start .args .line .now) (start .pre .1) _ (count read) _ _ (e .0) (read .count .given .1) (e .1 .0) (asked .requested .ensures) in
+    let is = requested-line (start .args .line .now) (start .pre .1) _ (count read) _ _ (e .0) (read .count .given .1) (e .1 .1 .0) (asked .requested .ensures) in
     by-line (start .args .line .now) (start .args .journal .now) (start .args .out .now) _ _ _ _ is (made .carry-out .ensures)
 
 same-length-3 : tie.Need-same-length-3

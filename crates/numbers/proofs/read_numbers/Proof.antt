@@ -7,9 +7,10 @@ use lib.ListN.{length, take, set, length-set}
 use lib.Seq.{length-take-le}
 use borrow.Author.Needs.{needs}
 use Rattle.protocol.specs.declared.Number.the-variants.{Value}
-use Rattle.protocol.specs.KeyLine.{spacedNumber}
+use Rattle.protocol.specs.KeyLine.{spacedNumber, numbersFrom}
+use Rattle.numbers.specs.declared.Numbers.the-variants.{Count}
 use Rattle.numbers.specs.Numbers.{counted, listed}
-use Rattle.numbers.proofs.Sequence.{spaced-ends, ReadTo, Kept, read-none, kept-none, read-all, kept-all, refused, kept-refused, read-next, kept-next}
+use Rattle.numbers.proofs.Sequence.{spaced-ends, ReadTo, Kept, read-none, kept-none, read-all, kept-all, refused, kept-refused, read-next, kept-next, numbers-outcome}
 use Rattle.numbers.proofs.read_numbers.Statement.{statement}
 use Rattle.numbers.proofs.read_numbers.Tie as tie
 
@@ -34,7 +35,7 @@ module _ (c : tie.After-known-told Inv-loop μ-loop) where
   next = c .before .value .given .0 .1 .0
 
   found : spacedNumber line (l .loop .at) ≡ Value v next
-  found = sym (c .before .before .before .spaced-number .ensures) ∙ c .before .value .given .1
+  found = sym (c .before .before .before .spaced-number .ensures .0) ∙ c .before .value .given .1
 
   room : l .loop .n < length (l .loop .values)
   room = omega (arith, spaced-ends line (l .loop .at) v next found)
@@ -67,11 +68,12 @@ returns : tie.Need-returns Inv-loop μ-loop
 returns c =
     let l = c .before .before .before .before in
     let line = l .before .before .before .args .line .now in
-    let none-found = sym (c .before .before .spaced-number .ensures) ∙ c .enum-told .given .1 in
+    let none-found = sym (c .before .before .spaced-number .ensures .0) ∙ c .enum-told .given .1 in
     let inside = c .before .before .before .loop-test .taken in
     let e = refused line (l .loop .values) (l .loop .at) (l .loop .n) (l .loop .inv .1 .0) inside none-found in
     let kept = kept-refused line (l .loop .values) (l .loop .at) (l .loop .n) (l .loop .inv .1 .0) inside _ (l .loop .inv .1 .1) none-found in
-    (sym (ap counted e), (sym (ap listed e), (omega arith, kept)))
+    let answer = sym (ap counted e) in
+    (answer, (numbers-outcome line _ answer, (sym (ap listed e), (omega arith, kept))))
 
 mul-values : tie.Need-mul-values Inv-loop μ-loop
 mul-values c = omega arith
@@ -98,7 +100,8 @@ returns-2 c =
     let e = read-all line (l .loop .values) (l .loop .at) (l .loop .n) (l .loop .inv .1 .0) (c .loop-test .left) in
     let kept = kept-all line (l .loop .values) (l .loop .at) (l .loop .n) (l .loop .inv .1 .0) _ (l .loop .inv .1 .1) (c .loop-test .left) in
     let long : length (take (l .loop .n) (l .loop .values)) ≡ l .loop .n = length-take-le (l .loop .n) (l .loop .values) (omega arith) in
-    (rw (e, long), (rw e, (omega arith, kept)))
+    let answer : Count (l .loop .n) ≡ counted (numbersFrom (length line) line 1) = rw (e, long) in
+    (answer, (numbers-outcome line _ answer, (rw e, (omega arith, kept))))
 
 pub read-numbers-spec : {M : Type 1} → statement M
 read-numbers-spec =

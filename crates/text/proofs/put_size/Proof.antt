@@ -1,8 +1,21 @@
 -- `put_size` meets its contract.
+use mathlib.Core.Path.{_≡_, refl}
+use mathlib.Core.List.{List, [], _∷_}
+use Prim.Native.Nat.{ℕ}
 use native.Mathlib.Omega.{arith}
 use borrow.Author.Needs.{needs}
+use Rattle.ascii.specs.Text.{byte}
+use Rattle.statistics.specs.declared.SampleSize.{SampleSize}
+use Rattle.statistics.specs.declared.SampleSize.the-variants.{Absent}
+use Rattle.protocol.specs.Reply.{spaced, sizeText}
+use Rattle.text.specs.Written.{Written}
 use Rattle.text.proofs.put_size.Statement.{statement}
 use Rattle.text.proofs.put_size.Tie as tie
+
+-- no sample size is a space and '-'
+absent : {before after : List ℕ} {place second end : ℕ} {size : SampleSize} → size ≡ Absent → Written before place (spaced (second ∷ [])) after end
+    → second ≡ byte "-" → Written before place (spaced (sizeText size)) after end
+absent e w dash = rw (e, ← dash) w
 
 enum-known-size : tie.Need-enum-known-size
 enum-known-size c = search needs
@@ -31,7 +44,7 @@ same-length-2 c = search needs
 returns-2 : tie.Need-returns-2
 returns-2 c =
     let p = c .before .before .put-bytes in
-    (rw (c .before .before .before .before .before .enum-told .given .1) (p .ensures), omega (arith, p .ensures .position))
+    (absent (c .before .before .before .before .before .enum-told .given .1) (p .ensures) refl, omega (arith, p .ensures .position))
 
 pub put-size-spec : {M : Type 1} → statement M
 put-size-spec =
