@@ -39,7 +39,7 @@ journal = shrSliceOf (0 ∷ []) tt (plain (λ _. u8))
 abbrev pub buffer : Slot 3
 buffer = mutSliceOf (1 ∷ []) tt (plain (λ _. u8))
 
-abbrev pub refused : Slot 3
+abbrev refused : Slot 3
 refused = mutRefTo (2 ∷ []) tt (plain (λ _. u8))
 
 -- the signatures of `write` and of the call, whose result is of the buffer's lifetime, so that the buffer is not kept

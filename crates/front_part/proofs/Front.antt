@@ -82,7 +82,7 @@ module _ {M : Type 1} (𝓤 : URA M) (H : Heap 𝓤) (A : Atoms 𝓤) (W : Given
       sep 𝓤 (sem 𝓤 H A (fsep (fobs γ′ (code front)) (fsep (fbor κ (Front γ′ (length front))) (flft κ q))))
       (sem 𝓤 H A (fsep (feq ℕ (length lent) (length front)) (fres γ (code (lent ++ back)))))
 
-  pub takes-front : (q : Share) (γ : GName) (ys : List X) (back : List Hl)
+  takes-front : (q : Share) (γ : GName) (ys : List X) (back : List Hl)
       → ent 𝓤 (sep 𝓤 (A .obs γ (code (map (here T) ys ++ back))) (sep 𝓤 (A .bor κ (Whole γ)) (A .lft κ q)))
       (H .⇛ (ex 𝓤 (λ (γ′ : GName). ex 𝓤 (λ (lent : List Hl). Taken q γ (map (here T) ys) back γ′ lent))))
   unfolding fseps
