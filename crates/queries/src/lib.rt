@@ -1,9 +1,10 @@
-// The public calls that only read the journal: status, and the marks written into a lent output. None asks anything of its arguments or of what is lent to it. Each promises its whole answer
-// (its value, which pins the case, and what it tells in the specification's numbers, `outcome`) and every byte of each buffer that it may write, refused or not;
-// but for `marks`, of which see there.
+// The public calls that only read the journal: status, and the marks written into a lent output. None asks anything of its arguments or of what is lent to it. Each
+// promises its whole answer (its value, which pins the case, and what it tells in the specification's numbers, `outcome`) and every byte of each buffer that it may
+// write, refused or not; `marks`, whose result keeps its output lent, promises the bytes of that result, and by `LenderFinds` every byte behind it.
 ghost use mathlib.Core.Path.{_≡_};
-ghost use lib.ListN.{length};
+ghost use lib.ListN.{length, drop};
 ghost use denote.Ref.{ptr};
+ghost use Rattle.front_part.specs.Lender.{LenderFinds};
 ghost use Rattle.reference.specs.Call.{Marks, ReadStatus, Write, Ask};
 ghost use Rattle.reference.specs.Answers.{refusalOn, answer, outcomeOf, outcome, outAfter, outPart, outputAnswer};
 use cumsum::RESOLUTION;
@@ -46,15 +47,25 @@ pub fn write_marks(journal: &[u8], out: &mut [u8]) -> OutputAnswer
     }
 }
 
-// Marks, with just the written part of the output handed back, an empty one where the call is refused. It promises the part's bytes, where the part starts and the
-// refusal; of the rest of an output that the part keeps lent no contract can speak. `write_marks`, which does the work, promises every byte.
-pub fn marks<'a>(journal: &[u8], out: &'a mut [u8], refusal: &mut u8) -> &'a mut [u8]
-    ensures { λ r. ⌜ now r ≡ outPart Marks (now (journal .entry)) (now (out .entry)) ⌝ }
-    ensures { λ r. ⌜ ptr r ≡ ptr (out .entry) ⌝ }
-    ensures { λ _. ⌜ now (refusal .exit) ≡ refusalOn (Ask (Write Marks (length (now (out .entry))))) (now (journal .entry)) ⌝ }
+// The same, with the refusal told through a lent byte: where the written part ends.
+fn write_front(journal: &[u8], out: &mut [u8], refusal: &mut u8) -> usize
+    ensures { λ r. ⌜ record { refusal = now (refusal .exit); length = r } ≡ outputAnswer Marks (now (journal .entry)) (now (out .entry)) ⌝ }
+    ensures { λ _. ⌜ now (out .exit) ≡ outAfter Marks (now (journal .entry)) (now (out .entry)) ⌝ }
 {
     let written = write_marks(journal, out);
     *refusal = written.refusal;
-    let end = written.length;
+    written.length
+}
+
+// Marks, with just the written part of the output handed back, an empty one where the call is refused. It promises the part's bytes, where the part starts, that
+// whoever lent the output finds behind the part exactly the definition's bytes when the borrow ends, and the refusal. (`∗ ⊤ₛ` lets the borrow checker cover a
+// caller, which is handed the other three promises.)
+pub fn marks<'a>(journal: &[u8], out: &'a mut [u8], refusal: &mut u8) -> &'a mut [u8]
+    ensures { λ r. ⌜ now r ≡ outPart Marks (now (journal .entry)) (now (out .entry)) ⌝ }
+    ensures { λ r. ⌜ ptr r ≡ ptr (out .entry) ⌝ }
+    ensures { λ r. LenderFinds 𝓤 A (out .entry) r (drop (length (now r)) (outAfter Marks (now (journal .entry)) (now (out .entry)))) ∗ ⊤ₛ }
+    ensures { λ _. ⌜ now (refusal .exit) ≡ refusalOn (Ask (Write Marks (length (now (out .entry))))) (now (journal .entry)) ⌝ }
+{
+    let end = write_front(journal, out, refusal);
     &mut out[..end]
 }

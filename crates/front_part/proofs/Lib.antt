@@ -1,0 +1,6 @@
+pub mod Again
+pub mod Places
+pub mod Front
+pub mod Lender
+pub mod Form
+pub mod HandsBack
