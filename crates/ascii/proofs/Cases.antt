@@ -11,6 +11,10 @@ cases =
       byteOfSpace = refl;
       fourDigits = refl;
       zero = refl;
+      oneDigit = refl;
+      twoDigits = refl;
+      digitBytes = refl;
       digitsBefore = refl;
+      digitsToTheEnd = refl;
       spelt365 = refl;
     }

@@ -13,21 +13,27 @@ use Rattle.reference.specs.Refusals.{refusals, refusal}
 use Rattle.reference.specs.Answers.{answer, outcome, journalAfter}
 use Rattle.ascii.specs.Decimal.{decimalUpTo, decimal}
 use Rattle.protocol.specs.KeyLine.{callOf, commandOf, numbersFrom}
-use Rattle.protocol.specs.Reply.{replyTo}
+use Rattle.protocol.specs.Reply.{replyTo, journalAfterLine}
 use Rattle.exports.specs.Numbers.{pollutantNumbers, statusNumbers}
-use Rattle.exports.specs.Exports.{replyCount, refusalGiven, journalLeft}
+use Rattle.exports.specs.Exports.{replyCount, replyLeft, lineLeft, refusalGiven, figuresLeft, journalLeft}
 use Rattle.exports.specs.Cases.{Cases}
 
 pub cases : Cases
-unfolding put nearestEven variation t95 sizeReached compared failed undecided periods needs verdict closed admissible readAs refusals refusal answer outcome journalAfter decimalUpTo decimal callOf commandOf numbersFrom replyTo pollutantNumbers statusNumbers replyCount refusalGiven journalLeft
+unfolding put nearestEven variation t95 sizeReached compared failed undecided periods needs verdict closed admissible readAs refusals refusal answer outcome journalAfter decimalUpTo decimal callOf commandOf numbersFrom replyTo journalAfterLine pollutantNumbers statusNumbers replyCount replyLeft lineLeft refusalGiven figuresLeft journalLeft
 cases =
     record {
       secondNumbers = refl;
       refusedNumbers = refl;
       replied = refl;
       shortOutput = refl;
+      replyAtFront = refl;
+      replyKept = refl;
+      lineDone = refl;
+      lineNotDone = refl;
       given = refl;
       fewFigures = refl;
+      figuresAtFront = refl;
+      figuresKept = refl;
       entered = refl;
       notEntered = refl;
     }

@@ -1,19 +1,21 @@
 -- Worked cases of an answer as numbers: the status after document 01's second engine ("Cases on the edges"; the whole run), and that of a refusal; and of the
 -- exported functions, at the sizes of slices that include/plt.h names.
 use mathlib.Core.Path.{_≡_}
-use mathlib.Core.List.{[], _∷_}
+use mathlib.Core.List.{[], _∷_, _++_}
+use lib.ListN.{replicate}
 use Rattle.buffers.specs.Bytes.{zeros}
 use Rattle.ascii.specs.Text.{byte, text}
 use Rattle.statistics.specs.declared.SampleSize.the-variants.{Tenths}
 use Rattle.cumsum.specs.declared.Mark.the-variants.{Under, Undecided}
 use Rattle.year.specs.declared.Status.{Status}
+use Rattle.year.specs.declared.Event.the-variants.{Declaration}
 use Rattle.year.specs.Cases.{setupOf, engine}
 use Rattle.journal.specs.Encode.{encode}
 use Rattle.reference.specs.Call.{ReadStatus, Ask}
 use Rattle.reference.specs.Answers.{noStatus}
 use Rattle.reference.specs.Cases.{engineOne}
 use Rattle.exports.specs.Numbers.{statusNumbers}
-use Rattle.exports.specs.Exports.{replyCount, refusalGiven, journalLeft}
+use Rattle.exports.specs.Exports.{replyCount, replyLeft, lineLeft, refusalGiven, figuresLeft, journalLeft}
 
 -- "s 52,857, e 1, C 1,057,158 to 1,057,159, H 1,057,140 to 1,057,160, mark '?'", and "OK 2 1 ?U 30 10"
 abbrev pub second : Status
@@ -48,9 +50,16 @@ pub record Cases : Type 0 where
   -- on a journal of no byte, where what is done is refused by 3: "NO 3" in 96 bytes, and nothing in 95
   pub replied : replyCount (text "X") [] (zeros 96) ≡ 4
   pub shortOutput : replyCount (text "X") [] (zeros 95) ≡ 0
+  pub replyAtFront : replyLeft (text "X") [] (zeros 96) ≡ text "NO 3" ++ zeros 92
+  pub replyKept : replyLeft (text "X") [] (zeros 95) ≡ zeros 95
+  -- a declaration keyed with 96 bytes for its reply, and with 95, when nothing is done
+  pub lineDone : lineLeft (text "X") (encode (setupOf 5000 800) []) (zeros 96) ≡ encode (setupOf 5000 800) (Declaration ∷ [])
+  pub lineNotDone : lineLeft (text "X") (encode (setupOf 5000 800) []) (zeros 95) ≡ encode (setupOf 5000 800) []
   -- twenty figures, and nineteen
   pub given : refusalGiven (Ask ReadStatus) [] (zeros 20) ≡ 3
   pub fewFigures : refusalGiven (Ask ReadStatus) [] (zeros 19) ≡ 255
+  pub figuresAtFront : figuresLeft (Ask ReadStatus) [] (replicate 21 7) ≡ statusNumbers noStatus ++ (7 ∷ [])
+  pub figuresKept : figuresLeft (Ask ReadStatus) [] (replicate 19 7) ≡ replicate 19 7
   -- an accepted engine stands in the journal; with nineteen figures nothing is done
   pub entered : journalLeft engineOne (encode (setupOf 5000 800) []) (zeros 20) ≡ encode (setupOf 5000 800) (engine 1 998 ∷ [])
   pub notEntered : journalLeft engineOne (encode (setupOf 5000 800) []) (zeros 19) ≡ encode (setupOf 5000 800) []

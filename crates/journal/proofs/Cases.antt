@@ -1,8 +1,10 @@
--- The worked cases of the stored journal: each is computed.
+-- The worked cases of the stored journal. A deviation without variation is 0 by its law; the rest is computed.
 use mathlib.Core.Path.{refl}
 use Rattle.rounding.specs.Result.{nearestEven}
-use Rattle.statistics.specs.SampleSize.{sizeReached}
-use Rattle.cumsum.specs.Marks.{failed, undecided}
+use Rattle.statistics.specs.Spread.{variation}
+use Rattle.statistics.specs.SampleSize.{t95, sizeReached}
+use Rattle.statistics.proofs.Deviations.{deviation-none}
+use Rattle.cumsum.specs.Marks.{compared, failed, undecided}
 use Rattle.buffers.specs.Bytes.{put}
 use Rattle.year.specs.Periods.{periods, needs}
 use Rattle.year.specs.Verdict.{verdict}
@@ -11,7 +13,7 @@ use Rattle.journal.specs.Read.{readAs}
 use Rattle.journal.specs.Cases.{Cases}
 
 pub cases : Cases
-unfolding nearestEven sizeReached failed undecided put periods needs verdict closed admissible readAs
+unfolding nearestEven variation t95 sizeReached compared failed undecided put periods needs verdict closed admissible readAs
 cases =
     record {
       size = refl;
@@ -28,6 +30,7 @@ cases =
       readNone = refl;
       readOne = refl;
       readTwo = refl;
+      readEachKind = simp deviation-none;
       readZeros = refl;
       otherVersion = refl;
       dirtyHeader = refl;

@@ -5,7 +5,8 @@ use Prim.Native.Nat.{ℕ}
 use lib.ListN.{length, take, drop, set}
 use Rattle.buffers.specs.Bytes.{zeros}
 use Rattle.year.specs.declared.Setup.{Setup}
-use Rattle.year.specs.declared.Event.the-variants.{Amendment, NextPeriod, Declaration}
+use Rattle.year.specs.declared.Event.{Event}
+use Rattle.year.specs.declared.Event.the-variants.{Engine, Amendment, NextPeriod, Declaration}
 use Rattle.year.specs.Model.{NoSetup, Year}
 use Rattle.year.specs.Cases.{pair, setupOf, engine}
 use Rattle.journal.specs.Encode.{encode, slotOf, append}
@@ -28,6 +29,10 @@ differing =
       factors = record { hcnox = record { kind = 1; value = 1050 }; co = record { kind = 0; value = 25 } };
     }
 
+-- each kind of event: engines of two readings and of three, an amendment, a next period, a declaration
+abbrev eachKind : List Event
+eachKind = Declaration ∷ NextPeriod ∷ Amendment (pair 700 6000) ∷ Engine 65535 3 (pair 800 5000) ∷ Engine 258 2 (pair 800 5000) ∷ []
+
 pub record Cases : Type 0 where
   pub size : length none ≡ 544
   -- bytes 0 to 31
@@ -49,6 +54,7 @@ pub record Cases : Type 0 where
   pub readNone : readJournal none ≡ Year (setupOf 5000 800) []
   pub readOne : readJournal one ≡ Year (setupOf 5000 800) (engine 1 998 ∷ [])
   pub readTwo : readJournal (encode (setupOf 5000 800) (Declaration ∷ engine 1 998 ∷ [])) ≡ Year (setupOf 5000 800) (Declaration ∷ engine 1 998 ∷ [])
+  pub readEachKind : readJournal (encode (setupOf 5000 800) eachKind) ≡ Year (setupOf 5000 800) eachKind
   pub readZeros : readJournal (zeros 544) ≡ NoSetup
   -- refused: another version, an unnamed byte that is not zero (in the header, in a slot, in an unused slot), a kind 5, one byte more or less
   pub otherVersion : readJournal (set none 3 2) ≡ NoSetup

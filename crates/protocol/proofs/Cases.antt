@@ -39,6 +39,7 @@ cases =
       spaceMissing = refl;
       spacedRefused = refl;
       twoSpaces = refl;
+      numberMissing = refl;
       spaceAtEnd = refl;
       noSpace = refl;
       tab = refl;

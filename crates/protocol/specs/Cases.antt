@@ -68,6 +68,7 @@ pub record Cases : Type 0 where
   pub spacedRefused : spacedOutcome (text "A 0800 6100") 1 ≡ record { refusal = 2; value = 0; next = 0 }
   -- exactly one space, and nothing else
   pub twoSpaces : commandOf (text "A 800  6100") ≡ Refuse 2
+  pub numberMissing : commandOf (text "A 800 ") ≡ Refuse 2
   pub spaceAtEnd : commandOf (text "A 800 6100 ") ≡ Refuse 2
   pub noSpace : commandOf (text "A800 6100") ≡ Refuse 2
   pub tab : commandOf (text "A\t800 6100") ≡ Refuse 2

@@ -6,6 +6,7 @@ use Rattle.rounding.specs.Result.{nearestEven}
 use Rattle.statistics.specs.Spread.{variation}
 use Rattle.statistics.specs.SampleSize.{t95, sampleSize, sizeReached}
 use Rattle.statistics.proofs.Deviations.{deviation-none}
+use Rattle.statistics.proofs.Cases as statistics
 use Rattle.cumsum.specs.Marks.{compared, failed, undecided}
 use Rattle.buffers.specs.Bytes.{put}
 use Rattle.year.specs.Periods.{periods, needs}
@@ -13,6 +14,7 @@ use Rattle.year.specs.Replay.{replay}
 use Rattle.year.specs.Verdict.{verdict}
 use Rattle.year.specs.Admissible.{closed, admissible}
 use Rattle.year.specs.Cases.{setupOf, enginesTo}
+use Rattle.year.proofs.Cases.{of-2367-3236}
 use Rattle.year.proofs.CasesOfVerdict.{at-standard}
 use Rattle.journal.specs.Read.{readAs}
 use Rattle.reference.specs.Refusals.{refusals, refusal}
@@ -73,6 +75,8 @@ cases =
       setupAnswer = refl;
       entryWrites = refl;
       entryAnswer = refl;
+      statusAt1024 = statistics.cases .deviationAt1024;
+      marksAt1024 = simp (of-2367-3236, deviation-none);
       marksWritten = refl;
       marksHandedBack = refl;
       marksRefused = refl;
@@ -84,6 +88,7 @@ cases =
       journalOfOne = refl;
       modelAnew = refl;
       modelEngine = refl;
+      modelFactored = refl;
       modelDeclared = refl;
       modelPeriod = simp deviation-none;
     }

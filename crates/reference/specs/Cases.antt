@@ -6,8 +6,10 @@ use mathlib.Core.List.{List, [], _∷_}
 use Prim.Native.Nat.{ℕ}
 use lib.ListN.{replicate}
 use Rattle.buffers.specs.Bytes.{zeros}
+use Rattle.ascii.specs.Text.{text}
 use Rattle.rounding.specs.declared.Factor.{Factor}
-use Rattle.rounding.specs.Cases.{noFactor}
+use Rattle.rounding.specs.Cases.{added, noFactor, multiplied}
+use Rattle.statistics.specs.Cases.{exactly}
 use Rattle.year.specs.declared.Pair.{Pair}
 use Rattle.year.specs.declared.Setup.{Setup}
 use Rattle.year.specs.declared.Event.{Event}
@@ -20,13 +22,17 @@ use Rattle.reference.specs.declared.Change.{Change}
 use Rattle.reference.specs.declared.Change.the-variants.{Amend, BeginPeriod, Declare}
 use Rattle.reference.specs.Call.{engineEntry, EnterChange, Marks, ReadStatus, Write, Call, SetUp, Enter, Ask}
 use Rattle.reference.specs.Refusals.{refusal}
-use Rattle.reference.specs.Answers.{noStatus, answer, journalAfter, outAfter, outPart}
+use Rattle.reference.specs.Answers.{noStatus, statusOf, answer, journalAfter, outBytes, outAfter, outPart}
 use Rattle.reference.specs.Model.{modelOf, journalOf, setupAccepted}
 
 -- a setup of this volume, these standards and this HC+NOx factor
 abbrev pub setupWith : ℕ → Pair → Factor → Setup
 setupWith volume standards factor =
     record { volume = volume; days = 365; standards = standards; factors = record { hcnox = factor; co = noFactor } }
+
+-- HC+NOx multiplied by 1,050 thousandths, 3,000 thousandths added to CO
+abbrev pub factored : Setup
+factored = record { volume = 5000; days = 365; standards = pair 800 6100; factors = record { hcnox = multiplied 1050; co = added 3000 } }
 
 -- the printed run's year, with some events
 abbrev pub yearOf : List Event → Model
@@ -107,6 +113,9 @@ pub record Cases : Type 0 where
   pub entryWrites : journalAfter engineOne (encode (setupOf 5000 800) []) ≡ encode (setupOf 5000 800) (engine 1 998 ∷ [])
   -- the status that an entry gives is that of the journal that it leaves: one engine, short, S 998 and 5,000
   pub entryAnswer : answer engineOne (encode (setupOf 5000 800) []) ≡ Accepted (record { n = 1; verdict = 0; hcnox = onlySum 998; co = onlySum 5000 })
+  -- at the calculator's resolution of 1,024: s 52,857 for X 998 then 1,071; and T 10, X 2,367 then 3,236 has '?', where 1,023 and 1,025 would have 'O'
+  pub statusAt1024 : statusOf (yearOf (engine 2 1071 ∷ engine 1 998 ∷ [])) .hcnox .deviation ≡ exactly 52857 1
+  pub marksAt1024 : outBytes Marks (Year (setupOf 5000 10) (engine 2 3236 ∷ engine 1 2367 ∷ [])) ≡ text "--?U"
   -- marks at the front of the output, the rest of it as it was; refused, all of it as it was
   pub marksWritten : outAfter Marks (encode (setupOf 5000 800) (engine 1 998 ∷ [])) (1 ∷ 2 ∷ 3 ∷ []) ≡ 45 ∷ 45 ∷ 3 ∷ []
   pub marksHandedBack : outPart Marks (encode (setupOf 5000 800) (engine 1 998 ∷ [])) (1 ∷ 2 ∷ 3 ∷ []) ≡ 45 ∷ 45 ∷ []
@@ -117,6 +126,8 @@ pub record Cases : Type 0 where
   pub modelOfTwo : modelOf (changing (Amend (pair 700 6100)) ∷ engineOne ∷ newYear ∷ []) ≡ yearOf (Amendment (pair 700 6100) ∷ engine 1 998 ∷ [])
   -- each entry adds its own event: an engine with its number, its reading count and results worked from all readings; a declaration; a next period
   pub modelEngine : modelOf (entering 7 (998000 ∷ 1000000 ∷ []) (5000000 ∷ 5002000 ∷ []) ∷ newYear ∷ []) ≡ yearOf (Engine 7 2 (pair 999 5001) ∷ [])
+  -- each result under its own factor: 50 × 1.05 is 52.5, rounded to 52, and 50 + 3 is 53
+  pub modelFactored : modelOf (entering 1 (50000 ∷ []) (50000 ∷ []) ∷ SetUp factored ∷ []) ≡ Year factored (Engine 1 1 (pair 52 53) ∷ [])
   pub modelDeclared : modelOf (changing Declare ∷ newYear ∷ []) ≡ yearOf (Declaration ∷ [])
   pub modelPeriod : modelOf (changing BeginPeriod ∷ entering 2 (1000000 ∷ []) (5000000 ∷ []) ∷ entering 1 (1000000 ∷ []) (5000000 ∷ []) ∷ SetUp (setupOf 5000 1000) ∷ [])
       ≡ Year (setupOf 5000 1000) (NextPeriod ∷ engine 2 1000 ∷ engine 1 1000 ∷ [])

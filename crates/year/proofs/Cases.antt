@@ -20,7 +20,7 @@ of-998-1071-926-finer : deviation 8192 3 31538 ≡ exactly 593924 1
 of-998-1071-926-finer = deviation-unique 8192 3 31538 (lit≤ tt) 593924 (lit≤ tt) (lit< tt)
 
 -- 2,367, 3,236 and then 1,499
-of-2367-3236 : deviation 1024 2 755161 ≡ exactly 629223 1
+pub of-2367-3236 : deviation 1024 2 755161 ≡ exactly 629223 1
 of-2367-3236 = deviation-unique 1024 2 755161 (lit≤ tt) 629223 (lit≤ tt) (lit< tt)
 
 of-2367-3236-1499 : deviation 1024 3 4525754 ≡ exactly 889344 1
