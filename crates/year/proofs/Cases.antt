@@ -85,6 +85,7 @@ cases =
       verdictAmended = simp deviation-none;
       sizeAmended = refl;
       testsAmended = refl;
+      sizeOfCo = refl;
       statusOfOne = refl;
       statusOfNone = refl;
       nAmended = refl;
