@@ -58,7 +58,7 @@ pub record Cases : Type 0 where
   -- twenty figures, and nineteen
   pub given : refusalGiven (Ask ReadStatus) [] (zeros 20) ≡ 3
   pub fewFigures : refusalGiven (Ask ReadStatus) [] (zeros 19) ≡ 255
-  pub figuresAtFront : figuresLeft (Ask ReadStatus) [] (replicate 21 7) ≡ statusNumbers noStatus ++ (7 ∷ [])
+  pub figuresAtFront : figuresLeft (Ask ReadStatus) [] (replicate 20 7) ≡ statusNumbers noStatus
   pub figuresKept : figuresLeft (Ask ReadStatus) [] (replicate 19 7) ≡ replicate 19 7
   -- an accepted engine stands in the journal; with nineteen figures nothing is done
   pub entered : journalLeft engineOne (encode (setupOf 5000 800) []) (zeros 20) ≡ encode (setupOf 5000 800) (engine 1 998 ∷ [])
