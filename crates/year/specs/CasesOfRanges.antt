@@ -23,7 +23,7 @@ producing volume days = record { volume = volume; days = days; standards = pair 
 abbrev factoring : Factor → Factor → Setup
 factoring hcnox co = record { volume = 5000; days = 365; standards = pair 800 6100; factors = record { hcnox = hcnox; co = co } }
 
--- events that leave two engines in each of the first periods, and begin the next
+-- two engines in the first period, and the second begun
 abbrev toPeriod2 : List Event
 toPeriod2 = NextPeriod ∷ engine 2 800 ∷ engine 1 800 ∷ []
 

@@ -8,11 +8,11 @@ use Rattle.year.specs.Replay.{replay}
 use Rattle.year.specs.Verdict.{verdict, onePercent}
 use Rattle.year.specs.Cases.{pair, setupUnder, setupOf, engine, enginesTo, three}
 
--- three engines' results of one pollutant: T 100, X 500 three times, marks "-OO"; T 800, X 998, 1,071, 926, marks "-?O"; and X at its standard, marks "-UU"
+-- three engines, by their results of one pollutant. Under T 800, X 998, 1,071, 926 have marks "-?O"; under T 100, X 500 three times has "-OO"
 abbrev threeWith : (first second third : ℕ) → (ℕ → ℕ → Event) → List Event
 threeWith first second third event = event 3 third ∷ event 2 second ∷ event 1 first ∷ []
 
--- an engine with this CO result, and HC+NOx at a standard of 800
+-- an engine with this CO result; under an HC+NOx standard of 800 its HC+NOx marks are "-UU"
 abbrev coOnly : ℕ → ℕ → Event
 coOnly number result = Engine number 1 (pair 800 result)
 
@@ -26,7 +26,7 @@ pub record CasesOfVerdict : Type 0 where
   -- 6 before 5: HC+NOx has failed, and CO is undecided; and the other way round
   pub failedAndUndecided : verdict 1024 (replay (setupUnder 5000 (pair 100 800)) (threeWith 998 1071 926 (λ (number result : ℕ). Engine number 1 (pair 500 result)))) ≡ 6
   pub undecidedAndFailed : verdict 1024 (replay (setupUnder 5000 (pair 800 100)) (threeWith 998 1071 926 (λ (number result : ℕ). Engine number 1 (pair result 500)))) ≡ 6
-  -- 6 and 5 before 0: a year that is undecided stays so in a new period
+  -- 5 before 0: a year that is undecided stays so in a new period
   pub undecidedShort : verdict 1024 (replay (setupOf 5000 800) (NextPeriod ∷ threeWith 998 1071 926 engine)) ≡ 5
   -- 0 before 2: N was reached in the first period, and a new one begins; with its engine it is reached again
   pub reached : verdict 1024 (replay (setupOf 5000 1000) (enginesTo 2)) ≡ 2
@@ -40,7 +40,7 @@ pub record CasesOfVerdict : Type 0 where
   pub thirty : verdict 1024 (replay (setupOf 3000 800) (enginesTo 30)) ≡ 3
   pub twentyNine : verdict 1024 (replay (setupOf 3000 800) (enginesTo 29)) ≡ 1
   pub twentyNineOf2900 : verdict 1024 (replay (setupOf 2900 800) (enginesTo 29)) ≡ 4
-  -- "n is at least one percent of P": two are that of 250, and not of 251 or 350
+  -- "n is at least one percent of P": two are that of 250, and not of 251, which is 3
   pub twoOf250 : verdict 1024 (replay (setupOf 250 800) (enginesTo 2)) ≡ 4
   pub twoOf251 : verdict 1024 (replay (setupOf 251 800) (enginesTo 2)) ≡ 1
   -- one percent of 50 is 0; two engines are needed all the same
