@@ -30,7 +30,6 @@ cases =
       readNone = refl;
       readOne = refl;
       readTwo = refl;
-      readEachKind = simp deviation-none;
       readZeros = refl;
       otherVersion = refl;
       dirtyHeader = refl;
@@ -42,4 +41,5 @@ cases =
       resultAtMost = refl;
       resultAbove = refl;
       afterDeclaration = refl;
+      readEachKind = simp deviation-none;
     }

@@ -1,7 +1,5 @@
 -- The worked cases of the calls. A deviation without variation is 0 by its law; the rest is computed.
-use mathlib.Core.Path.{_≡_, refl}
-use mathlib.Core.Bool.{false}
-use mathlib.Core.List.{[], _∷_}
+use mathlib.Core.Path.{refl}
 use Rattle.rounding.specs.Result.{nearestEven}
 use Rattle.statistics.specs.Spread.{variation}
 use Rattle.statistics.specs.SampleSize.{t95, sampleSize, sizeReached}
@@ -10,26 +8,14 @@ use Rattle.statistics.proofs.Cases as statistics
 use Rattle.cumsum.specs.Marks.{compared, failed, undecided}
 use Rattle.buffers.specs.Bytes.{put}
 use Rattle.year.specs.Periods.{periods, needs}
-use Rattle.year.specs.Replay.{replay}
 use Rattle.year.specs.Verdict.{verdict}
 use Rattle.year.specs.Admissible.{closed, admissible}
-use Rattle.year.specs.Cases.{setupOf, enginesTo}
 use Rattle.year.proofs.Cases.{of-2367-3236}
-use Rattle.year.proofs.CasesOfVerdict.{at-standard}
 use Rattle.journal.specs.Read.{readAs}
 use Rattle.reference.specs.Refusals.{refusals, refusal}
 use Rattle.reference.specs.Answers.{journalAfter, answer, outAfter, outPart}
 use Rattle.reference.specs.Model.{stepModel}
-use Rattle.reference.specs.Cases.{yearOf, entering, Cases}
-
--- forty engines at their standards have not failed
-forty-open : closed (replay (setupOf 5000 800) (enginesTo 40)) ≡ false
-unfolding closed nearestEven sizeReached needs
-forty-open = rw (at-standard (replay (setupOf 5000 800) (enginesTo 40)) refl refl refl)
-
-of-41 : refusal 544 (entering 41 (1 ∷ []) (1 ∷ [])) (yearOf (enginesTo 40)) ≡ 14
-unfolding refusals refusal nearestEven
-of-41 = rw forty-open
+use Rattle.reference.specs.Cases.{Cases}
 
 pub cases : Cases
 unfolding nearestEven variation t95 sampleSize sizeReached compared failed undecided put periods needs verdict closed admissible readAs refusals refusal journalAfter answer outAfter outPart stepModel
@@ -62,7 +48,6 @@ cases =
       readingHcnox = refl;
       readingCo = refl;
       result = refl;
-      engineOf41 = of-41;
       periodShort = refl;
       periodLast = simp deviation-none;
       periodNext = simp deviation-none;

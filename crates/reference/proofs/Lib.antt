@@ -1,4 +1,5 @@
 pub mod Cases
+pub mod CasesOfForty
 pub mod Validity
 pub mod WithSetup
 pub mod Stored

@@ -1,4 +1,4 @@
--- Worked cases of the calls: each refusal, some together with the next in order, and what accepted and refused calls leave.
+-- Worked cases of the calls: each refusal (14 in CasesOfForty), some together with the next in order, and what accepted and refused calls leave.
 -- Lists of events and of calls have the newest first.
 use mathlib.Core.Path.{_≡_}
 use mathlib.Core.Bool.{true, false}
@@ -15,7 +15,7 @@ use Rattle.year.specs.declared.Setup.{Setup}
 use Rattle.year.specs.declared.Event.{Event}
 use Rattle.year.specs.declared.Event.the-variants.{Engine, Amendment, NextPeriod, Declaration}
 use Rattle.year.specs.Model.{Model, NoSetup, Year}
-use Rattle.year.specs.Cases.{pair, setupOf, engine, enginesTo, onlySum, three}
+use Rattle.year.specs.Cases.{pair, setupOf, engine, onlySum, three}
 use Rattle.journal.specs.Encode.{encode}
 use Rattle.reference.specs.declared.Answer.the-variants.{Accepted, Refused}
 use Rattle.reference.specs.declared.Change.{Change}
@@ -95,8 +95,6 @@ pub record Cases : Type 0 where
   pub readingCo : refusal 544 (entering 1 (1 ∷ []) (20001000 ∷ [])) (yearOf []) ≡ 12
   -- 13: 20,000 and 60 more
   pub result : refusal 544 (entering 1 (20000000 ∷ []) (1 ∷ [])) (Year (setupWith 5000 (pair 800 6100) (record { kind = 0; value = 60000 })) []) ≡ 13
-  -- 14: a forty-first engine
-  pub engineOf41 : refusal 544 (entering 41 (1 ∷ []) (1 ∷ [])) (yearOf (enginesTo 40)) ≡ 14
   -- 15, in a short period, and in the last
   pub periodShort : refusal 544 (changing BeginPeriod) (yearOf (engine 1 998 ∷ [])) ≡ 15
   pub periodLast : refusal 544 (changing BeginPeriod) (Year (setupOf 1500 1000) (engine 2 1000 ∷ engine 1 1000 ∷ [])) ≡ 15

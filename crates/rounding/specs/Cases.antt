@@ -29,7 +29,8 @@ pub record Cases : Type 0 where
   pub rounds1000499 : rounded 1000499 ≡ 1000
   pub rounds1000501 : rounded 1000501 ≡ 1001
   -- a third is below a half and two thirds are above
-  pub meansOfThree : map mean ((1 ∷ 1 ∷ 2 ∷ []) ∷ (1 ∷ 2 ∷ 2 ∷ []) ∷ []) ≡ 1 ∷ 2 ∷ []
+  pub meanOfFour3rds : mean (1 ∷ 1 ∷ 2 ∷ []) ≡ 1
+  pub meanOfFive3rds : mean (1 ∷ 2 ∷ 2 ∷ []) ≡ 2
   -- readings 1,500 and 600 are 2 and 1, whose mean is 2; rounded once at the end they would be 1
   pub eachReadingRounded : resultOf noFactor (1500 ∷ 600 ∷ []) ≡ 2
   -- kind 0 adds 1,500 thousandths to 50: 51.5 is rounded to 52
