@@ -6,7 +6,8 @@
 changes specs/FILE.antt of a crate of definitions, one place at a time: each number by one, each comparison, connective, pollutant, constructor and letter by its
 neighbour. A definition is what a reader has to believe, so each change should break a worked case (proofs/*Cases*, Run) or at least a law. Listed is each change
 that broke no case, with the laws that it broke; the last line counts. It works on a copy of the repository, takes a second or two a change, and is no part of the
-gate: what it lists has to be judged, since some changes change nothing (a default that is never read, the end of a range between two multiples of ten).
+gate. What it lists has to be judged, since some changes change nothing (a default that is never read, the end of a range between two multiples of ten); and what
+it does not try is another shape: a condition left out, or one engine, reading or pollutant taken for another.
 """
 import os
 import re
@@ -16,7 +17,7 @@ import sys
 import tempfile
 
 ROOT = os.path.dirname(os.path.dirname(os.path.abspath(__file__)))
-NEIGHBOURS = [("leb", "ltb"), ("&&", "||"), (".hcnox", ".co"), ("Hcnox", "Co"), ("true", "false"), (".low", ".high"), (".volume", ".days"), (".kind", ".value"),
+NEIGHBOURS = [("leb", "ltb"), ("leb", "eqb"), ("ltb", "eqb"), ("&&", "||"), (".hcnox", ".co"), ("Hcnox", "Co"), ("true", "false"), (".low", ".high"), (".volume", ".days"), (".kind", ".value"),
               (".floor", ".inexact"), (".cumsum", ".limit"), (".first", ".second"), (".second", ".third"), ("NextPeriod", "Declaration"),
               ("BeginPeriod", "Declare"), ("Over", "Under"), ("Under", "Undecided"), ("Over", "Undecided"), ("Unmarked", "Under"),
               (" + ", " - "), (" * ", " + "), (" / ", " % ")]

@@ -43,7 +43,8 @@ numbersOutcome line =
     let read = numbersFrom (length line) line 1 in
     record { refusal = formRefusal read; count = length (listed read) }
 
--- the numbers that are read from a position on, up to the line's end or to where no number can be read
+-- the numbers that are read from a position on, up to the line's end or to where no number can be read. Document 01 asks for none of a refused line; this says what is
+-- left of them in the lent values
 abbrev pub andRead : Number → (ℕ → List ℕ) → List ℕ
 andRead (Value v next) more = v ∷ more next
 andRead Nothing more = []

@@ -1,8 +1,8 @@
 -- Worked cases of the key line, and document 01's whole run.
 use mathlib.Core.Path.{_≡_}
-use mathlib.Core.List.{[], _∷_}
+use mathlib.Core.List.{[], _∷_, _++_}
 use lib.ListN.{replicate}
-use Rattle.ascii.specs.Text.{text}
+use Rattle.ascii.specs.Text.{byte, text}
 use Rattle.statistics.specs.declared.SampleSize.{SampleSize}
 use Rattle.statistics.specs.declared.SampleSize.the-variants.{Tenths, Absent}
 use Rattle.cumsum.specs.declared.Mark.{Mark}
@@ -76,6 +76,11 @@ pub record Cases : Type 0 where
   pub aboveDigits : commandOf (text "A 80: 6100") ≡ Refuse 2
   pub otherByte : commandOf (text "A 800 6100x") ≡ Refuse 2
   pub otherCount : commandOf (text "A 800") ≡ Refuse 2
+  pub sevenNumbers : commandOf (text "S 1 2 3 4 5 6 7") ≡ Refuse 2
+  pub nineNumbers : commandOf (text "S 1 2 3 4 5 6 7 8 9") ≡ Refuse 2
+  pub threeStandards : commandOf (text "A 800 6100 1") ≡ Refuse 2
+  pub numberAfterDeclaration : commandOf (text "X 1") ≡ Refuse 2
+  pub numberAfterMarks : commandOf (text "L 1") ≡ Refuse 2
   pub numberAfterPeriod : commandOf (text "P 1") ≡ Refuse 2
   pub otherLetter : commandOf (text "T 1") ≡ Refuse 2
   pub letterAlone : commandOf (text "T") ≡ Refuse 2
@@ -94,6 +99,8 @@ pub record Cases : Type 0 where
   pub refusedBy16 : refusalReply 16 ≡ text "NO 16"
   pub noMarks : marksReply [] ≡ text "OK"
   pub twoTested : statusReply (record { n = 2; verdict = 1; hcnox = marked Undecided (Tenths 30); co = marked Under Absent }) ≡ text "OK 2 1 ?U 30 -"
+  -- a line that is too long "is dropped up to its newline": 70 bytes, and then a declaration, on a journal that is all zero
+  pub longLine : run (replicate 70 (byte "X") ++ text "\nX\n") ≡ text "NO 1\nNO 7\n"
   -- document 01, "Input and print of a whole run"
   pub documentRun : run (text "S 5000 365 800 6100 0 0 0 0\nE 1 998000 5000000\nE 2 1071000 5000000\nE 3 900000 5000000\nL\nX\nE 4 1 1\n")
       ≡ text "OK 0 0 -- - -\nOK 1 0 -- - -\nOK 2 1 ?U 30 10\nOK 3 1 UU 28 10\nOK --?UUU\nOK 3 7 UU 28 10\nNO 8\n"

@@ -75,6 +75,9 @@ pub record Cases : Type 0 where
   pub engineNoSetup : refusal 544 (entering 0 [] []) NoSetup ≡ 7
   -- 8, after a declaration and after a failure; status still reads
   pub afterDeclaration : refusal 544 (entering 0 [] []) (yearOf (Declaration ∷ [])) ≡ 8
+  pub amendmentAfter : refusal 544 (changing (Amend (pair 20 10))) (yearOf (Declaration ∷ [])) ≡ 8
+  pub periodAfter : refusal 544 (changing BeginPeriod) (yearOf (Declaration ∷ [])) ≡ 8
+  pub declarationAfter : refusal 544 (changing Declare) (yearOf (Declaration ∷ [])) ≡ 8
   pub afterFailure : refusal 544 (changing Declare) (Year (setupOf 5000 100) three) ≡ 8
   pub statusDeclared : refusal 544 (Ask ReadStatus) (yearOf (Declaration ∷ [])) ≡ 0
   -- 8, before 9: the sixty-fourth event is a declaration
@@ -88,8 +91,12 @@ pub record Cases : Type 0 where
   -- 11, before 12
   pub noReadings : refusal 544 (entering 1 [] []) (yearOf []) ≡ 11
   pub countsDiffer : refusal 544 (entering 1 (20000001 ∷ []) []) (yearOf []) ≡ 11
+  pub countsUnequal : refusal 544 (entering 1 (1 ∷ []) (1 ∷ 1 ∷ [])) (yearOf []) ≡ 11
   pub fourReadings : refusal 544 (entering 1 (1 ∷ 1 ∷ 1 ∷ 1 ∷ []) (1 ∷ 1 ∷ 1 ∷ 1 ∷ [])) (yearOf []) ≡ 11
   pub reading : refusal 544 (entering 1 (1 ∷ []) (20000001 ∷ [])) (yearOf []) ≡ 12
+  -- any of the readings
+  pub secondReading : refusal 544 (entering 1 (1 ∷ 20000001 ∷ []) (1 ∷ 1 ∷ [])) (yearOf []) ≡ 12
+  pub thirdReading : refusal 544 (entering 1 (1 ∷ 1 ∷ 1 ∷ []) (1 ∷ 1 ∷ 20000001 ∷ [])) (yearOf []) ≡ 12
   -- 12, before 13: a result of 20,001
   pub readingHcnox : refusal 544 (entering 1 (20001000 ∷ []) (1 ∷ [])) (yearOf []) ≡ 12
   pub readingCo : refusal 544 (entering 1 (1 ∷ []) (20001000 ∷ [])) (yearOf []) ≡ 12

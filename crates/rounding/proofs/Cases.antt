@@ -16,6 +16,7 @@ cases =
       meanOfFour3rds = refl;
       meanOfFive3rds = refl;
       eachReadingRounded = refl;
+      meanThenFactor = refl;
       fiftyAnd1500 = refl;
       nothingAdded = refl;
       timesOne = refl;

@@ -33,6 +33,8 @@ pub record Cases : Type 0 where
   pub meanOfFive3rds : mean (1 ∷ 2 ∷ 2 ∷ []) ≡ 2
   -- readings 1,500 and 600 are 2 and 1, whose mean is 2; rounded once at the end they would be 1
   pub eachReadingRounded : resultOf noFactor (1500 ∷ 600 ∷ []) ≡ 2
+  -- the mean is rounded before the factor is applied: 0 and 3 have the mean 2 (1.5), and 3.5 is 4; not rounded, or with the factor on each, it would be 3
+  pub meanThenFactor : resultOf (added 1500) (0 ∷ 2800 ∷ []) ≡ 4
   -- kind 0 adds 1,500 thousandths to 50: 51.5 is rounded to 52
   pub fiftyAnd1500 : factored (added 1500) 50 ≡ 52
   -- nothing added, and a factor of 1,000 thousandths, leave the largest result as it is

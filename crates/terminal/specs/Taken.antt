@@ -14,12 +14,12 @@ pub record Kept (bytes line journal held left : List ℕ) : Type 0 where
   pub holds : held ≡ heldAfter bytes line
   pub leaves : left ≡ journalPast bytes line journal
 
--- a piece of the input, all that one read brought: each of its bytes was taken, or, where the output is closed, some front of them
+-- a piece of the input, all that one read brought: each of its bytes was taken, or, where it is said that the output is closed, some front of them
 abbrev pub Taken : Bool → List ℕ → List ℕ → List ℕ → List ℕ → List ℕ → Type 0
 Taken true piece line journal held left = Kept piece line journal held left
 Taken false piece line journal held left = (count : ℕ) × Kept (take count piece) line journal held left
 
--- the piece of the last read was taken after what the reads before it brought; nothing, where none may follow the first
+-- the piece of the last read was taken after what earlier reads brought, which is nothing where no read may follow the first
 pub record Fetched (most : ℕ) (all : Bool) (piece line journal held left : List ℕ) : Type 0 where
   pub before : List ℕ
   pub first : most ≡ 0 → before ≡ []
@@ -29,8 +29,8 @@ pub record Fetched (most : ℕ) (all : Bool) (piece line journal held left : Lis
 abbrev pub Stopped : Bool → ℕ → ℕ → Type 0
 Stopped all got more = (got ≡ 0) ⊎ ((more ≡ 0) ⊎ (all ≡ false))
 
--- a run over some input, from the start that document 01 names, by how many bytes its last read brought. Where that is none every line is answered, the last one with
--- or without newline
+-- a run over some input, from the start that document 01 names, by how many bytes its last read is said to have brought. Where that is none every line is answered,
+-- the last one with or without newline
 abbrev pub Answered : ℕ → List ℕ → List ℕ → Type 0
 Answered zero held left = (input : List ℕ) × (held ≡ heldAfter input []) × (left ≡ journalAfterLines (zeros 544) (linesOf input))
 Answered (suc _) held left = (input : List ℕ) × Kept input [] (zeros 544) held left

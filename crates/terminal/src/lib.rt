@@ -108,7 +108,7 @@ fn finish(journal: &mut [u8; JOURNAL_SIZE], line: &[u8; HELD_SIZE], held: usize)
 }
 
 // Answers every line until the input ends or the output is closed, by more reads than any input uses up; how many bytes the last read brought. Document 01's start
-// is required, so that no caller has another.
+// is required of the caller.
 fn answer_input(
     journal: &mut [u8; JOURNAL_SIZE],
     line: &mut [u8; HELD_SIZE],

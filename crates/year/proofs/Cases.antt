@@ -85,6 +85,7 @@ cases =
       verdictAmended = simp deviation-none;
       sizeAmended = refl;
       testsAmended = refl;
+      coTestsAmended = refl;
       sizeOfCo = refl;
       statusOfOne = refl;
       statusOfNone = refl;

@@ -23,6 +23,7 @@ cases-of-ranges =
       engineFits = refl;
       numberFits = refl;
       resultFits = refl;
+      resultOfNoReading = refl;
       amendmentFits = refl;
       engines = refl;
       engineOf41 = refl;

@@ -98,6 +98,8 @@ pub record Cases : Type 0 where
   -- and it is T for the engine after it
   pub testsAmended : history Hcnox (replay (setupOf 5000 800) (engine 2 900 ∷ Amendment (pair 700 6100) ∷ engine 1 998 ∷ []) .tested)
       ≡ record { result = 900; standard = 700 } ∷ record { result = 998; standard = 800 } ∷ []
+  pub coTestsAmended : history Co (replay (setupOf 5000 800) (engine 2 900 ∷ Amendment (pair 700 6000) ∷ engine 1 998 ∷ []) .tested)
+      ≡ record { result = 5000; standard = 6000 } ∷ record { result = 5000; standard = 6100 } ∷ []
   -- each pollutant has its own N: with X 1,000 twice there is none for HC+NOx, and 1 for CO
   pub sizeOfCo : status 1024 (twice 1000) .co .size ≡ Tenths 10
   -- "Before engine 2 the figures other than n, S and verdict are zero and N is absent; with no engine the mark is '-'": with one engine, and with none

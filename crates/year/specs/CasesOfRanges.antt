@@ -52,6 +52,8 @@ pub record CasesOfRanges : Type 0 where
   pub engineFits : map (λ (readings : ℕ). fits (replay (setupOf 5000 800) []) (Engine 1 readings (pair 0 0))) (0 ∷ 1 ∷ 3 ∷ 4 ∷ []) ≡ false ∷ true ∷ true ∷ false ∷ []
   pub numberFits : map (λ (number : ℕ). fits (replay (setupOf 5000 800) (engine 7 800 ∷ [])) (engine number 800)) (0 ∷ 7 ∷ 8 ∷ []) ≡ false ∷ false ∷ true ∷ []
   pub resultFits : map (λ (x : ℕ). fits (replay (setupOf 5000 800) []) (engine 1 x)) (20000 ∷ 20001 ∷ []) ≡ true ∷ false ∷ []
+  -- "whether or not some reading yields it": no reading under a factor of 60 yields 1
+  pub resultOfNoReading : fits (replay (factoring (multiplied 60000) noFactor) []) (engine 1 1) ≡ true
   pub amendmentFits : map (λ (t : ℕ). fits (replay (setupOf 5000 800) []) (Amendment (pair 800 t))) (0 ∷ 10 ∷ 15 ∷ 20000 ∷ 20010 ∷ []) ≡ false ∷ true ∷ false ∷ true ∷ false ∷ []
   -- "At most 40 engines." "number of events, 0 to 64"
   pub engines : map (λ (n : ℕ). enginesFull (replay (setupOf 5000 800) (enginesTo n))) (39 ∷ 40 ∷ []) ≡ false ∷ true ∷ []

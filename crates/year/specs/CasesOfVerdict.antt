@@ -2,6 +2,7 @@
 use mathlib.Core.Path.{_≡_}
 use mathlib.Core.List.{List, [], _∷_}
 use Prim.Native.Nat.{ℕ}
+use Rattle.year.specs.declared.Pair.{Pair}
 use Rattle.year.specs.declared.Event.{Event}
 use Rattle.year.specs.declared.Event.the-variants.{Engine, NextPeriod, Declaration}
 use Rattle.year.specs.Replay.{replay}
@@ -16,6 +17,10 @@ threeWith first second third event = event 3 third ∷ event 2 second ∷ event 
 abbrev coOnly : ℕ → ℕ → Event
 coOnly number result = Engine number 1 (pair 800 result)
 
+-- three engines, by the results of both pollutants
+abbrev threePairs : (first second third : Pair) → List Event
+threePairs first second third = Engine 3 1 third ∷ Engine 2 1 second ∷ Engine 1 1 first ∷ []
+
 pub record CasesOfVerdict : Type 0 where
   -- 7 before 6: a declaration is told of a year that has failed; and before 0
   pub declaredFailed : verdict 1024 (replay (setupOf 5000 100) (Declaration ∷ three)) ≡ 7
@@ -23,6 +28,9 @@ pub record CasesOfVerdict : Type 0 where
   -- "6, failed: one pollutant", "5, unsettled: one pollutant": CO alone
   pub coFailed : verdict 1024 (replay (setupUnder 5000 (pair 800 100)) (threeWith 500 500 500 coOnly)) ≡ 6
   pub coUndecided : verdict 1024 (replay (setupUnder 5000 (pair 800 800)) (threeWith 998 1071 926 coOnly)) ≡ 5
+  -- one pollutant's marks, not one of each: HC+NOx has "-OU" and CO "-UO"; HC+NOx has "-?U" and CO "-U?"
+  pub overByTurns : verdict 1024 (replay (setupUnder 5000 (pair 100 100)) (threePairs (pair 500 216) (pair 500 329) (pair 0 232))) ≡ 1
+  pub undecidedByTurns : verdict 1024 (replay (setupUnder 5000 (pair 800 110)) (threePairs (pair 998 216) (pair 1071 329) (pair 900 232))) ≡ 1
   -- 6 before 5: HC+NOx has failed, and CO is undecided; and the other way round
   pub failedAndUndecided : verdict 1024 (replay (setupUnder 5000 (pair 100 800)) (threeWith 998 1071 926 (λ (number result : ℕ). Engine number 1 (pair 500 result)))) ≡ 6
   pub undecidedAndFailed : verdict 1024 (replay (setupUnder 5000 (pair 800 100)) (threeWith 998 1071 926 (λ (number result : ℕ). Engine number 1 (pair result 500)))) ≡ 6
@@ -39,10 +47,15 @@ pub record CasesOfVerdict : Type 0 where
   -- 3 before 4: thirty engines, one percent of 3,000, and no N; 29 are neither; 29 are one percent of 2,900
   pub thirty : verdict 1024 (replay (setupOf 3000 800) (enginesTo 30)) ≡ 3
   pub twentyNine : verdict 1024 (replay (setupOf 3000 800) (enginesTo 29)) ≡ 1
+  pub thirtyOne : verdict 1024 (replay (setupOf 5000 800) (enginesTo 31)) ≡ 3
   pub twentyNineOf2900 : verdict 1024 (replay (setupOf 2900 800) (enginesTo 29)) ≡ 4
+  -- "all engines in the book count", not those of the current period alone: thirty, and one percent of 1,600
+  pub thirtyInTwoPeriods : verdict 1024 (replay (setupOf 5000 800) (engine 30 800 ∷ NextPeriod ∷ enginesTo 29)) ≡ 3
+  pub sixteenInTwoPeriods : verdict 1024 (replay (setupOf 1600 800) (engine 16 800 ∷ NextPeriod ∷ enginesTo 15)) ≡ 4
   -- "n is at least one percent of P": two are that of 250, and not of 251, which is 3
   pub twoOf250 : verdict 1024 (replay (setupOf 250 800) (enginesTo 2)) ≡ 4
   pub twoOf251 : verdict 1024 (replay (setupOf 251 800) (enginesTo 2)) ≡ 1
-  -- one percent of 50 is 0; two engines are needed all the same
+  -- one percent of 50 is 0, and two are more; two engines are needed all the same
   pub onePercentOf50 : onePercent 50 ≡ 0
+  pub twoOf50 : verdict 1024 (replay (setupOf 50 800) (enginesTo 2)) ≡ 4
   pub oneOf50 : verdict 1024 (replay (setupOf 50 800) (enginesTo 1)) ≡ 0
