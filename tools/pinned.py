@@ -5,8 +5,8 @@
 
 changes specs/FILE.antt of a crate of definitions, one place at a time: each number by one, each comparison, connective, pollutant, constructor and letter by its
 neighbour. A definition is what a reader has to believe, so each change should break a worked case (proofs/*Cases*, Run) or at least a law. Listed is each change
-that broke no case, with the laws that it broke; the last line counts. It works on a copy of the repository, takes a second or two a change, and is no part of the
-gate. What it lists has to be judged, since some changes change nothing (a default that is never read, the end of a range between two multiples of ten); and what
+that broke no case, with the laws that it broke; the last line counts. It works on a copy of the repository, makes one check of the crate for each change, and is no
+part of the gate. What it lists has to be judged, since some changes change nothing (a default that is never read, the end of a range between two multiples of ten); and what
 it does not try is another shape: a condition left out, or one engine, reading or pollutant taken for another.
 """
 import os
