@@ -1,18 +1,32 @@
 #!/usr/bin/env bash
-# The library from C: every name of its header, in C and in C++; and the example, which prints what the calculator prints, on document 01's run and on every line of
-# the other tested runs, and nothing for an input of no bytes.
+# The library from C: every name of its header, in C and in C++; and the examples. The calculator in C prints the stored outputs of the tested runs, and nothing for
+# empty input; the figures of the worked years are the stored ones, also from a journal's file.
 set -euo pipefail
 cd "$(dirname "$0")/.."
 library=target/staticlib/libplt.a
 strict="-Wall -Wextra -Werror -pedantic-errors -O2 -Iinclude"
-mkdir -p target/bin
-cc -std=c11 $strict tests/header.c "$library" -o target/bin/header
-target/bin/header
-c++ -std=c++11 $strict -x c++ tests/header.c -x none "$library" -o target/bin/header
-target/bin/header
-cc -std=c11 $strict examples/calculator.c "$library" -o target/bin/calculator_c
-for run in calculator run_years run_lines; do
-    target/bin/calculator_c <"crates/$run/stdin" | cmp - "crates/$run/stdout"
+for name in $(grep -oE '\bPLT_[A-Z_0-9]+\b' include/plt.h | sort -u); do
+    [ "$name" = PLT_H ] || grep -qw "$name" tests/header.c || { echo "tests/header.c does not try $name" && exit 1; }
 done
-target/bin/calculator_c </dev/null | cmp - /dev/null
-echo "the example in C prints the 3 tested runs as the calculator does, and nothing for no input"
+cc -std=c11 $strict tests/header.c "$library" -o target/header
+target/header
+c++ -std=c++11 $strict -x c++ tests/header.c -x none "$library" -o target/header
+target/header
+
+cc -std=c11 $strict examples/calculator.c "$library" -o target/calculator_c
+for run in calculator run_years run_lines; do
+    target/calculator_c <"crates/$run/stdin" | cmp - "crates/$run/stdout"
+done
+target/calculator_c </dev/null | cmp - /dev/null
+
+cc -std=c11 $strict examples/figures.c "$library" -o target/figures
+cat crates/calculator/stdin crates/run_years/stdin | target/figures --save target/figures.journal | cmp - tests/figures.txt
+target/figures target/figures.journal | cmp - <(tail -n 9 tests/figures.txt | head -n 7; printf 'marks %s\n' "$(tail -n 1 tests/figures.txt | cut -c 4-)")
+# What is no journal, by its length or its content, or is no file: a message, and status 1.
+head -c 544 /dev/zero >target/zeros
+for file in examples/year.txt target/zeros target/nowhere; do
+    status=0
+    target/figures "$file" 2>target/message || status=$?
+    [ "$status" -eq 1 ] && grep -q "^figures: $file " target/message
+done
+echo "the examples in C print what is stored: the tested runs, and the figures of the worked years"

@@ -3,7 +3,7 @@
 # run_years, one after another in this order (a setup starts a year anew, whatever was there before).
 set -euo pipefail
 cd "$(dirname "$0")/.."
-others="undecided_mark sample_size amendment failed declared"
+others="undecided_mark sample_size amendment failed declared first_engine previous_limit equal_limit rounding"
 
 # The tested run $1 is made of the worked years $2...
 is_run() {

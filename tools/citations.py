@@ -1,6 +1,6 @@
 #!/usr/bin/env python3
-"""Checks that what the documents cite exists: every back-quoted text in them is found in the tree, or stands on the list below; so is where a link leads; and
-README's table of the crates is complete.
+"""Checks that what the documents cite exists: every back-quoted text outside a fenced block is found in the tree, or stands on the list below; every link leads to
+a file, and to a heading of it; and the table of the crates in docs/ARCHITECTURE.md is complete.
 
 Run from the repository's root. Forms of a citation:
   year/specs/Verdict: verdict     the name in crates/year/specs/Verdict.antt; Verdict: verdict, in a file of that name in any crate
@@ -16,12 +16,14 @@ import re
 import sys
 from glob import glob
 
-DOCUMENTS = ['README.md', 'examples/README.md', 'tests/cross/README.md'] + sorted(glob('docs/**/*.md', recursive=True))
+DOCUMENTS = ['README.md', 'CONTRIBUTING.md', 'examples/README.md', 'tests/cross/README.md'] + sorted(glob('docs/**/*.md', recursive=True))
 
 # What is cited and is nothing of the tree: the language, options and commands, the keys' letters, C, what is built.
 ALLOWED = {'&&', '||', '-', '&mut', '&mut u8', 'let', 'let .. else', 'requires', 'crate::module::function', '--calls', '--names', '--case', 'S', 'E', 'A', 'P', 'X',
            'L', 'OK', 'NO', 'N passed, 0 failed', 'memcpy', 'memset', 'libplt.a', '../../target/staticlib', 'PLT_LIB', 'NAME.replies.txt'}
 COMMANDS = ('rt ', './calculator ')
+# Key lines and replies, which tests/manual.py looks for.
+KEYED = re.compile(r'(OK|NO) .*|[A-Z]( \d+)+')
 # Words of the language and of its library within a longer text.
 WORDS = {'let', 'mut', 'else', 'getD'}
 NAME = r'[^\s()\[\]{}.,;:=→λ×]+'
@@ -89,6 +91,16 @@ class Tree:
 # ------------------------------------------------------------- the citations
 
 
+def unfenced(text):
+    """The text with its fenced blocks empty."""
+    return re.sub(r'^```.*?^```$', lambda block: '\n' * block.group().count('\n'), text, flags=re.M | re.S)
+
+
+def headings(path):
+    """The headings of a document, as links name them."""
+    return {re.sub(r'[^\w\- ]', '', title.lower()).replace(' ', '-') for title in re.findall(r'^#+ (.*)$', unfenced(read(path)), re.M)}
+
+
 class Checker:
     """The citations of one document, in order. Each method says what is wrong, or None."""
 
@@ -97,7 +109,7 @@ class Checker:
         self.last = None        # the crate that was named last in the same row or paragraph
 
     def check(self, text):
-        if text in ALLOWED or text.startswith(COMMANDS):
+        if text in ALLOWED or text.startswith(COMMANDS) or KEYED.fullmatch(text):
             return None
         self.checked += 1
         in_file = re.fullmatch(r'([\w/]+): (\S+)', text)
@@ -151,8 +163,11 @@ class Checker:
 
     def link(self, text):
         self.checked += 1
-        target = os.path.join(os.path.dirname(self.document), text)
-        return None if os.path.exists(target) else 'there is no file %s' % target
+        path, _, heading = text.partition('#')
+        target = os.path.join(os.path.dirname(self.document), path) if path else self.document
+        if not os.path.exists(target):
+            return 'there is no file %s' % target
+        return None if not heading or heading in headings(target) else '%s has no such heading' % target
 
     def item(self, text):
         """crate::module::item, or Type::Variant."""
@@ -182,15 +197,15 @@ class Checker:
 
 
 def table_misses(tree):
-    """README's table of the crates has each crate and nothing else."""
-    rows = re.search(r'\n\| crate \|.*\n((?:\|.*\n)+)', read('README.md')).group(1)
+    """The table of the crates has each crate and nothing else."""
+    rows = ''.join(re.findall(r'\n\| crate \|.*\n((?:\|.*\n)+)', read('docs/ARCHITECTURE.md')))
     listed = re.findall(r'`(\w+)`', ' '.join(row.split('|')[1] for row in rows.strip().split('\n')))
     groups = tuple(re.findall(r'`(\w+)\.\.`', rows))
     for name in sorted(set(listed) - tree.crates):
-        yield 'README.md: the table of the crates has `%s`, which is no crate' % name
+        yield 'docs/ARCHITECTURE.md: the table of the crates has `%s`, which is no crate' % name
     for name in sorted(tree.crates - set(listed)):
         if not name.startswith(groups):
-            yield 'README.md: the table of the crates does not have `%s`' % name
+            yield 'docs/ARCHITECTURE.md: the table of the crates does not have `%s`' % name
 
 
 def misplaced(tree, document, text):
@@ -206,7 +221,7 @@ def main():
     tree, checked = Tree(), 0
     messages = list(table_misses(tree))
     for document in DOCUMENTS:
-        checker, text = Checker(tree, document), read(document)
+        checker, text = Checker(tree, document), unfenced(read(document))
         messages += misplaced(tree, document, text)
         for found in re.finditer(r'`([^`]+)`|\]\(([^)]+)\)|\n(?=\n|\||- |\d+\. )', text):
             quoted, link = (' '.join((part or '').split()) for part in found.groups())

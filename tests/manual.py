@@ -1,0 +1,91 @@
+#!/usr/bin/env python3
+"""Runs every example of docs/MANUAL.md and compares: key lines and replies, shell commands and what they print, and what each slip would reply.
+
+Run from the repository's root, after target/bin/calculator and target/figures are built. The blocks of the manual:
+  keys               a line and its reply on each side of an arrow, keyed from an empty journal; \\r, \\t and \\xNN are bytes
+  console            $ and a command, and what it prints
+  slip NAME YEAR     lines of examples/YEAR.txt with their replies, and what a calculator that makes the slip NAME (tools/slips.py) replies: all lines but L where
+                     the two differ
+Key lines and replies within the text have to occur in a block or in a worked year.
+"""
+import glob
+import re
+import subprocess
+import sys
+
+sys.path.insert(0, 'tools')
+import slips
+
+MANUAL = 'docs/MANUAL.md'
+CALCULATOR = 'target/bin/calculator'
+ARROW, CROSS = '→', '✗'
+
+
+def run(words, given=b'', **more):
+    done = subprocess.run(words, input=given, stdout=subprocess.PIPE, timeout=60, **more)
+    assert done.returncode == 0, '%s: exit status %d' % (words, done.returncode)
+    return done.stdout
+
+
+def parts(line, marks):
+    """What stands before, between and after the marks."""
+    found = re.split(r'\s*[%s]\s*' % marks, line)
+    assert len(found) == len(marks) + 1, 'not of the form: %s' % line
+    return found
+
+
+def to_bytes(keyed):
+    return re.sub(rb'\\x([0-9a-f]{2})', lambda m: bytes([int(m.group(1), 16)]), keyed.encode().replace(b'\\r', b'\r').replace(b'\\t', b'\t'))
+
+
+def keys(body):
+    pairs = [parts(line, ARROW) for line in body.splitlines()]
+    wanted = ''.join(reply + '\n' for _, reply in pairs)
+    got = run([CALCULATOR], b''.join(to_bytes(keyed) + b'\n' for keyed, _ in pairs)).decode()
+    assert got == wanted, 'keyed:\n%s\ngot:\n%s' % (body, got)
+    return [text for pair in pairs for text in pair]
+
+
+def console(body):
+    for command, wanted in re.findall(r'^\$ (.*)\n((?:(?!\$ ).*\n)*)', body, re.M):
+        got = run(['bash', '-euo', 'pipefail', '-c', command]).decode()
+        assert got == wanted, '%s\ngot:\n%s' % (command, got)
+    return body.splitlines()
+
+
+def slip(body, name, year):
+    shown = [parts(line, ARROW + CROSS) for line in body.splitlines()]
+    right, wrong, differing = slips.calculator(None), slips.calculator(name), []
+    for line in read('examples/%s.txt' % year).encode().splitlines():
+        replies = right.reply(line), wrong.reply(line)
+        if replies[0] != replies[1] and line != b'L':
+            differing.append([line.decode(), *replies])
+    assert shown == differing, 'the slip %s differs at %s' % (name, differing)
+    stored = list(zip(read('examples/%s.txt' % year).splitlines(), read('examples/%s.replies.txt' % year).splitlines()))
+    assert all((line, reply) in stored for line, reply, _ in shown)
+    return [text for row in shown for text in row]
+
+
+def read(path):
+    with open(path, encoding='utf-8') as f:
+        return f.read()
+
+
+def main():
+    text, seen, count = read(MANUAL), set(), {}
+    for words, body in re.findall(r'^```(.*)\n((?:(?!```).*\n)*)```$', text, re.M):
+        kind, *more = words.split()
+        seen.update({'keys': keys, 'console': console, 'slip': slip}[kind](body, *more))
+        count[kind] = count.get(kind, 0) + 1
+    assert set(re.findall(r'^```slip (\w+)', text, re.M)) == set(slips.SLIPS), 'a slip is missing'
+    for path in glob.glob('examples/*.txt'):
+        seen.update(read(path).splitlines())
+    prose = re.sub(r'^```.*\n((?:(?!```).*\n)*)```$', '', text, flags=re.M)
+    for quoted in re.findall(r'`([^`]+)`', prose):
+        if re.fullmatch(r'(OK|NO) .*|[A-Z]( \d+)+', ' '.join(quoted.split())):
+            assert ' '.join(quoted.split()) in seen or quoted in ('NO 9', 'NO 14'), 'no example has `%s`' % quoted
+    print('the manual: %s' % ', '.join('%d blocks of %s' % (n, kind) for kind, n in sorted(count.items())))
+
+
+if __name__ == '__main__':
+    main()
