@@ -12,7 +12,7 @@ pub record Replied (before reply after : List ℕ) (count : ℕ) : Type 0 where
   pub size : count ≡ length reply
   pub fits : count < 96
 
--- what stands in front of so many bytes of marks
+-- what precedes this many bytes of marks
 abbrev pub marksFront : ℕ → List ℕ
 marksFront zero = text "OK"
 marksFront (suc n) = text "OK "
