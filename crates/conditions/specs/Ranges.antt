@@ -3,7 +3,7 @@ use mathlib.Core.Bool.{Bool, _&&_}
 use Prim.Native.Nat.{ℕ, _+_, _-_}
 use lib.Dec.{leb}
 
--- x is from low to high, both included
+-- x lies between low and high, both included
 abbrev pub within : ℕ → ℕ → ℕ → Bool
 within low high x = leb low x && leb x high
 

@@ -24,7 +24,7 @@ fn least(a: usize, b: usize) -> usize
     b
 }
 
-// The reply to the first bytes of a buffer as a line, and a newline.
+// The reply to the first `held` bytes of a buffer, read as a line, and a newline.
 fn answer(journal: &mut [u8], buffer: &[u8], held: usize, out: &mut [u8; REPLY_SIZE]) -> usize
     ensures { λ r. ⌜ Shown (replyTo (take held (now (buffer .entry))) (now (journal .entry)) ++ (byte "\n" ∷ [])) (now (out .entry)) (now (out .exit)) r ⌝ }
     ensures { λ _. ⌜ now (journal .exit) ≡ journalAfterLine (take held (now (buffer .entry))) (now (journal .entry)) ⌝ }

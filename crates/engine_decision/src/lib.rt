@@ -1,4 +1,4 @@
-// The decision on an engine: the event with the results worked from its readings, or the number of its refusal. Nothing is written.
+// The decision on an engine: the event with the results computed from its readings, or the number of its refusal. Nothing is written.
 mod readings;
 
 ghost use mathlib.Core.Path.{_≡_};

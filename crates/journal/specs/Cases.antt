@@ -29,7 +29,7 @@ differing =
       factors = record { hcnox = record { kind = 1; value = 1050 }; co = record { kind = 0; value = 25 } };
     }
 
--- each kind of event: engines of two readings and of three, an amendment, a next period, a declaration
+-- each kind of event: engines with two and with three readings, an amendment, a next period, a declaration
 abbrev eachKind : List Event
 eachKind = Declaration ∷ NextPeriod ∷ Amendment (pair 700 6000) ∷ Engine 65535 3 (pair 800 5000) ∷ Engine 258 2 (pair 800 5000) ∷ []
 

@@ -97,7 +97,7 @@ fn bare_request(call: CallRequest, values: &[u32]) -> Request
     Request::Make(call)
 }
 
-// What a letter with its numbers asks for.
+// What a letter and its numbers ask for.
 pub fn requested(letter: u8, values: &[u32]) -> Request
     ensures { λ r. ⌜ Requests r (now (values .entry)) (callOf letter (now (values .entry))) ⌝ }
 {

@@ -1,4 +1,4 @@
-// The progress of a model year in code: one value that is carried from event to event. The definitions are those of the crate year.
+// The progress of a model year in code: one value that is carried from event to event. The definitions are in the crate year.
 pub mod events;
 pub mod rework;
 

@@ -57,7 +57,7 @@ module _ (lines : List (List ℕ)) where
   pub record Session : Type 0 where
     -- the replies are those of the model
     pub replied : replies (zeros 544) lines ≡ modelReplies [] lines
-    -- the journal is that of the lines' calls, and it is read as the model
+    -- the journal is the one that the lines' calls leave, and it is read as the model
     pub sameCalls : journalAfterLines (zeros 544) lines ≡ journalOf calls
     pub readsBack : Holds (journalAfterLines (zeros 544) lines) (modelOf calls)
     -- so every byte of it is the model's: zeros as long as no setup was accepted, and then its stored form

@@ -47,7 +47,7 @@ pub data Call : Type 0 where
   Enter : Entry → Call
   Ask : Query → Call
 
--- the results worked from an engine's readings
+-- the results computed from an engine's readings
 abbrev pub resultsOf : Setup → Readings → Pair
 resultsOf s readings =
     record { hcnox = resultOf (factorOf Hcnox s) (readings .hcnox); co = resultOf (factorOf Co s) (readings .co) }

@@ -1,5 +1,5 @@
-// From readings to a result (document 01, "From reading to result"): each step rounds to the nearest, halves to the even neighbour. The definitions are those of
-// the crate rounding.
+// From readings to a result (document 01, "From reading to result"): each step rounds to the nearest, halves to the even neighbour. The definitions are in the
+// crate rounding.
 ghost use mathlib.Core.Path.{_≡_};
 ghost use mathlib.Core.List.{map};
 ghost use Prim.Native.Nat.{_^_, _≤_, _<_};

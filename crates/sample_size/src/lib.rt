@@ -1,4 +1,4 @@
-// The required sample size N = 1 + t95² × V × n / (10,000 × (n − 1) × G²), and the stop test (document 01, "Sample size"). The definitions are those of the crate
+// The required sample size N = 1 + t95² × V × n / (10,000 × (n − 1) × G²), and the stop test (document 01, "Sample size"). The definitions are in the crate
 // statistics.
 mod coefficient;
 

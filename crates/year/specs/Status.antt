@@ -60,7 +60,7 @@ status k p =
       co = figures k (sizeOf Co p) (history Co (p .tested));
     }
 
--- the newest engine's mark for each of some pollutants
+-- the newest engine's mark for each pollutant of a list
 abbrev pub newestMarks : List Pollutant → ℕ → List Tested → List Mark
 newestMarks qs k xs = map (λ q. mark k (history q xs)) qs
 
