@@ -64,7 +64,7 @@ module _ (calls : List Call) (m : ℕ) where
     pub readsBack : Holds (journalOf newestFirst) (modelOf newestFirst)
     -- so a further call is accepted or refused on the journal exactly as in the model
     pub refusals : (call : Call) → refusalOn call (journalOf newestFirst) ≡ refusal 544 call (modelOf newestFirst)
-    -- "every list of these calls with an accepted setup in it": the model then has a setup, and its finer work is as stated
+    -- "every list of these calls with an accepted setup in it": the model then has a setup, for which `FinerJournal` holds
     pub withSetup : setupAccepted newestFirst ≡ true
         → (s : Setup) × (es : List Event) × (modelOf newestFirst ≡ Year s es) × FinerJournal m (journalOf newestFirst) s es
     pub withoutSetup : setupAccepted newestFirst ≡ false → BeforeSetup (journalOf newestFirst)
