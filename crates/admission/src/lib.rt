@@ -33,7 +33,7 @@ pub fn results_in_range(results: Pair) -> bool
     )
 }
 
-// An engine: its number is in range and new, its readings are 1 to 3, its results are in range, and there is a place for it.
+// An engine: its number is in range and new, it has 1 to 3 readings, its results are in range, and there is room for it.
 fn engine_fits(p: Progress, number: u32, readings: u32, results: Pair) -> bool
     requires { ⌜ Consistent p ⌝ }
     ensures { λ r. ⌜ r ≡ fits (progressOf p) (Event.Engine number readings results) ⌝ }
@@ -56,7 +56,7 @@ pub fn period_fits(p: Progress) -> bool
     !either(last, is_short(p.current, p.period))
 }
 
-// What the event asks for by its kind.
+// The conditions that depend on the event's kind.
 fn event_fits(p: Progress, e: Event) -> bool
     requires { ⌜ Consistent p ⌝ }
     ensures { λ r. ⌜ r ≡ fits (progressOf p) e ⌝ }

@@ -25,7 +25,7 @@ fn size_number(size: SampleSize) -> u64
     }
 }
 
-// Puts the nine numbers of one pollutant. (An enum that is a field is copied before it is passed on: only a local is covered.)
+// Puts the nine numbers of one pollutant. (An enum field is copied to a local first: only a local is covered.)
 fn put_pollutant(part: &mut [u64], f: Figures)
     requires { ⌜ length (now part) ≡ 9 ⌝ }
     ensures { λ _. ⌜ now (part .exit) ≡ pollutantNumbers f ⌝ }
@@ -43,7 +43,7 @@ fn put_pollutant(part: &mut [u64], f: Figures)
     part[8] = mark_byte(mark) as u64;
 }
 
-// Puts the twenty numbers of a status at the front of a lent slice. The rest of the slice stays.
+// Puts the twenty numbers of a status at the front of a lent slice. The rest of the slice is unchanged.
 fn put_status(numbers: &mut [u64], s: Status)
     requires { ⌜ 20 ≤ length (now numbers) ⌝ }
     ensures { λ _. ⌜ now (numbers .exit) ≡ put (now (numbers .entry)) 0 (statusNumbers s) ⌝ }
@@ -54,7 +54,7 @@ fn put_status(numbers: &mut [u64], s: Status)
     numbers[1] = s.verdict as u64;
 }
 
-// The figures of a pollutant of which nothing is told.
+// The blank figures of one pollutant.
 fn no_figures() -> Figures
     ensures { λ r. ⌜ r ≡ blank 0 ⌝ }
 {
@@ -71,7 +71,7 @@ fn no_figures() -> Figures
     }
 }
 
-// The status that a refusal tells.
+// The status that goes with a refusal.
 fn no_status() -> Status
     ensures { λ r. ⌜ r ≡ noStatus ⌝ }
 {
@@ -83,7 +83,7 @@ fn no_status() -> Status
     }
 }
 
-// Puts the numbers of an answer at the front of a lent slice, and answers its refusal, 0 for none.
+// Puts the numbers of an answer at the front of a lent slice, and returns its refusal, 0 for none.
 pub fn put_answer(numbers: &mut [u64], answer: Answer) -> u8
     requires { ⌜ 20 ≤ length (now numbers) ⌝ }
     ensures { λ r. ⌜ r ≡ outcomeOf answer .refusal ⌝ }

@@ -9,7 +9,7 @@ pub record Cases : Type 0 where
   -- ASCII
   pub textOfPlt : text "PLT" ≡ 80 ∷ 76 ∷ 84 ∷ []
   pub byteOfSpace : byte " " ≡ 32
-  -- a number's digits, no leading zero but in 0; the digits that bytes start with, and the number that they spell
+  -- a number's digits, with no leading zero except in 0 itself; how many digits the bytes start with, and the number that digits spell
   pub fourDigits : decimal 1234 ≡ text "1234"
   pub zero : decimal 0 ≡ text "0"
   pub oneDigit : decimal 9 ≡ text "9"

@@ -15,16 +15,16 @@ unfoldable pub digits : List ℕ → ℕ
 digits [] = 0
 digits (b ∷ bs) = cond (isDigit b) (suc (digits bs)) 0
 
--- the decimal number that digits spell, after those that make v
+-- the decimal number that digits spell, continuing from v, the number spelt so far
 unfoldable pub spelt : ℕ → List ℕ → ℕ
 spelt v [] = v
 spelt v (b ∷ bs) = spelt (v * 10 + (b - byte "0")) bs
 
--- the digits of a number, at most `most` of them, with no leading zero but in 0
+-- the digits of a number, at most `most` of them, with no leading zero except in 0 itself
 unfoldable pub decimalUpTo : ℕ → ℕ → List ℕ
 decimalUpTo zero n = []
 decimalUpTo (suc most) n = cond (ltb n 10) ((byte "0" + n) ∷ []) (decimalUpTo most (n / 10) ++ ((byte "0" + n % 10) ∷ []))
 
--- a number n has no more than n + 1 digits
+-- the digits of a number; n has at most n + 1 of them
 unfoldable pub decimal : ℕ → List ℕ
 decimal n = decimalUpTo (suc n) n

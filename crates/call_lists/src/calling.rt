@@ -1,4 +1,4 @@
-// The calls. A journal is an array of 560 bytes, of which the calls are lent the first ones.
+// The calls. A journal is an array of 560 bytes, of which the calls are lent the first `lent`.
 ghost use mathlib.Core.Path.{_≡_};
 ghost use Prim.Native.Nat.{_≤_};
 ghost use lib.ListN.{length};
@@ -133,7 +133,7 @@ fn change(journal: &mut [u8], place: u32, value: u32) {
     }
 }
 
-// The line of a letter and its numbers; and how many bytes the calls after it are lent.
+// Carries out a line, given as its letter and numbers; returns how many bytes the calls after it are lent.
 pub fn obey(letter: u8, numbers: &[u32], journal: &mut [u8], lent: usize) -> usize
     requires { ⌜ (length (now numbers) ≡ 300) × (length (now journal) ≡ 560) × (lent ≤ 560) ⌝ }
     ensures { λ r. ⌜ r ≤ 560 ⌝ }

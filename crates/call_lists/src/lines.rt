@@ -1,11 +1,11 @@
-// Printed lines, beside those that all test programs have.
+// Printed lines, besides those that all test programs share.
 use reference::Answer;
 use test_lines::lines::end;
 use test_lines::lines::number;
 use test_lines::lines::status;
 use test_lines::lines::text;
 
-// A text between strokes.
+// A text between vertical bars.
 pub fn quoted(s: &[u8]) {
     text(b" |");
     text(s);

@@ -1,5 +1,5 @@
-// A test program: lists of public calls from standard input, one to a line, and what each call answers, with a digest of the journal after it. Input and expected
-// output are made by tools/call_lists.py, which works from document 01 alone and says how the lines are written.
+// A test program: lists of public calls from standard input, one per line, and what each call answers, with a digest of the journal after it. Input and
+// expected output are made by tools/call_lists.py, which works from document 01 alone and describes the line format.
 ghost use mathlib.Core.Path.{_≡_};
 ghost use Prim.Native.Nat.{_≤_, _<_};
 ghost use lib.ListN.{length};
@@ -11,7 +11,7 @@ use test_lines::numbers::read_arguments;
 mod calling;
 mod lines;
 
-// A line that is no title: its letter and its numbers.
+// Carries out a line that is not a title, by its letter and numbers.
 fn obey_line(line: &[u8], journal: &mut [u8], lent: usize) -> usize
     requires { ⌜ (0 < length (now line)) × (length (now line) ≤ 256) × (length (now journal) ≡ 560) × (lent ≤ 560) ⌝ }
     ensures { λ r. ⌜ r ≤ 560 ⌝ }
@@ -21,7 +21,7 @@ fn obey_line(line: &[u8], journal: &mut [u8], lent: usize) -> usize
     obey(line[0], &numbers, journal, lent)
 }
 
-// The next line of the input; and how many bytes of the journal the calls after it are lent.
+// Handles the next line of the input; returns how many bytes of the journal the calls after it are lent.
 fn next_line(line: &mut [u8], journal: &mut [u8], lent: usize) -> usize
     requires { ⌜ (length (now line) ≡ 256) × (length (now journal) ≡ 560) × (lent ≤ 560) ⌝ }
     ensures { λ r. ⌜ r ≤ 560 ⌝ }

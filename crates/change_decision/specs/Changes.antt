@@ -8,6 +8,6 @@ use Rattle.year.specs.Admissible.{lastPeriod}
 use Rattle.reference.specs.declared.Change.{Change}
 use Rattle.reference.specs.Call.{ofPeriod}
 
--- a change's own rows on a year: 15
+-- a change's own row, on a year: 15
 abbrev pub changeRefusal : Change → Progress → ℕ
 changeRefusal change p = first ((ofPeriod (lastPeriod p || short p) change, 15) ∷ []) 0

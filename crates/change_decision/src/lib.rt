@@ -19,7 +19,7 @@ use schedule::standards_in_range;
 use slots::Scanned;
 use year::Event;
 
-// The test of 5: an amendment's standards are out of range or no multiples of ten.
+// The test of refusal 5: an amendment's standards are out of range or not multiples of ten.
 fn is_unfit(c: Change) -> bool
     ensures { λ r. ⌜ r ≡ ofAmendment (λ standards. not (standardsInRange standards)) c ⌝ }
 {
@@ -30,7 +30,7 @@ fn is_unfit(c: Change) -> bool
     }
 }
 
-// 15, of a change on a year that holds.
+// Refusal 15, for a change on an accepted year.
 fn change_refusal(p: Progress, c: Change) -> u8
     requires { ⌜ Consistent p ⌝ }
     ensures { λ r. ⌜ r ≡ changeRefusal c (progressOf p) ⌝ }
@@ -53,7 +53,7 @@ fn change_event(c: Change) -> Event
     }
 }
 
-// The decision on a change: the rows that every entry may meet, and then its own.
+// The decision on a change: first the rows that can apply to every entry, then its own.
 pub fn change(journal: &[u8], scanned: Scanned, c: Change) -> Decision
     requires { ⌜ ScannedAs scanned (readJournal (now journal)) ⌝ }
     ensures { λ r. ⌜ r ≡ decisionOn (EnterChange c) (now (journal .entry)) ⌝ }

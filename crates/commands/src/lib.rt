@@ -1,5 +1,5 @@
-// The key line on a lent journal: the call that a line asks for is made, and its reply is written. Nothing is asked of what is lent, and every byte of it is
-// promised.
+// The key line on a lent journal: the call that a line asks for is made, and its reply is written. There is no precondition on what is lent, and the contract
+// gives every byte of it.
 ghost use mathlib.Core.Path.{_≡_};
 ghost use Prim.Native.Nat.{_≤_, _<_};
 ghost use lib.ListN.{length};
@@ -14,7 +14,7 @@ use protocol::LINE_SIZE;
 use protocol::REPLY_SIZE;
 use replies::write_refusal;
 
-// A line of 1 to 64 bytes: its letter and its numbers are read, and make a call.
+// A line of 1 to 64 bytes: reads its letter and its numbers, and makes their call.
 fn reply_short(journal: &mut [u8], line: &[u8], out: &mut [u8]) -> usize
     requires { ⌜ (1 ≤ length (now line)) × (length (now line) ≤ 64) × (96 ≤ length (now out)) ⌝ }
     ensures { λ r. ⌜ Replied (now (out .entry)) (replyTo (now (line .entry)) (now (journal .entry))) (now (out .exit)) r ⌝ }
@@ -30,8 +30,8 @@ fn reply_short(journal: &mut [u8], line: &[u8], out: &mut [u8]) -> usize
     }
 }
 
-// The reply to a line, at the front of the output, and how many bytes it has: always fewer than the output. A line of more than 64 bytes is refused by 1, and an
-// empty one, which has no letter, by 2.
+// Writes the reply to a line at the front of the output, and returns its length, always less than the output's. A line of more than 64 bytes is refused by 1,
+// and an empty one, which has no letter, by 2.
 pub fn reply(journal: &mut [u8], line: &[u8], out: &mut [u8; REPLY_SIZE]) -> usize
     ensures { λ r. ⌜ r ≡ length (replyTo (now (line .entry)) (now (journal .entry))) ⌝ }
     ensures { λ _. ⌜ now (out .exit) ≡ put (now (out .entry)) 0 (replyTo (now (line .entry)) (now (journal .entry))) ⌝ }

@@ -1,10 +1,10 @@
-// Conditions: a range, two tests joined, one row of a table of which the first that applies is taken. (`both` and `either` are functions, since what is known of a
-// test is lost where `&&` or `||` joins it in a local.)
+// Conditions: a range test, two tests combined, and one row of a table in which the first row that applies wins. (`both` and `either` are functions because the
+// prover loses what it knows of a test once `&&` or `||` combines it in a local.)
 ghost use mathlib.Core.Path.{_≡_};
 ghost use mathlib.Core.Bool.{cond, _&&_, _||_};
 ghost use Rattle.conditions.specs.Ranges.{within};
 
-// x is from low to high, both included.
+// x lies between low and high, both included.
 pub fn within(low: u32, high: u32, x: u32) -> bool
     ensures { λ r. ⌜ r ≡ within low high x ⌝ }
 {
@@ -21,7 +21,7 @@ pub fn either(a: bool, b: bool) -> bool
     b
 }
 
-// Two tests both.
+// Both of two tests.
 pub fn both(a: bool, b: bool) -> bool
     ensures { λ r. ⌜ r ≡ (a && b) ⌝ }
 {
@@ -31,7 +31,7 @@ pub fn both(a: bool, b: bool) -> bool
     false
 }
 
-// The number of a row that applies, otherwise what the later rows say.
+// This row's number if it applies, otherwise what the later rows give.
 pub fn row(applies: bool, number: u8, later: u8) -> u8
     ensures { λ r. ⌜ r ≡ cond applies number later ⌝ }
 {

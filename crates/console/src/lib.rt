@@ -1,4 +1,4 @@
-// The input as it comes, byte by byte: a line is held until its newline, and then answered.
+// The input as it arrives, byte by byte: a line is held until its newline, and then answered.
 mod holding;
 
 ghost use mathlib.Core.Path.{_≡_};
@@ -14,7 +14,7 @@ use commands::reply;
 use protocol::HELD_SIZE;
 use protocol::REPLY_SIZE;
 
-// Of the bytes said to be held, those that the buffer has: nothing is asked of their number.
+// The smaller of two numbers: the number of bytes said to be held, which has no precondition, is cut to the buffer's size.
 fn least(a: usize, b: usize) -> usize
     ensures { λ r. ⌜ r ≡ min a b ⌝ }
 {
@@ -24,7 +24,7 @@ fn least(a: usize, b: usize) -> usize
     b
 }
 
-// The reply to the first bytes of a buffer as a line, and a newline.
+// The reply to the first `held` bytes of a buffer, read as a line, and a newline.
 fn answer(journal: &mut [u8], buffer: &[u8], held: usize, out: &mut [u8; REPLY_SIZE]) -> usize
     ensures { λ r. ⌜ Shown (replyTo (take held (now (buffer .entry))) (now (journal .entry)) ++ (byte "\n" ∷ [])) (now (out .entry)) (now (out .exit)) r ⌝ }
     ensures { λ _. ⌜ now (journal .exit) ≡ journalAfterLine (take held (now (buffer .entry))) (now (journal .entry)) ⌝ }
@@ -34,7 +34,7 @@ fn answer(journal: &mut [u8], buffer: &[u8], held: usize, out: &mut [u8; REPLY_S
     end + 1
 }
 
-// A byte of the input, after those held of its line at the front of the buffer: how many bytes of the output are to be printed.
+// Takes a byte of the input, after the bytes of its line held at the front of the buffer, and returns how many bytes of the output are to be printed.
 pub fn key(
     journal: &mut [u8],
     buffer: &mut [u8; HELD_SIZE],
@@ -57,7 +57,7 @@ pub fn key(
     end
 }
 
-// The end of the input: what is held is a last line without newline, if any byte is.
+// The end of the input: the bytes held, if any, are a last line without newline.
 pub fn end_input(
     journal: &mut [u8],
     buffer: &[u8],

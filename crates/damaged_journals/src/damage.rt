@@ -1,4 +1,4 @@
-// The damage. Each public function leaves the journal as it was.
+// Damaging a journal. Each public function leaves the journal as it was.
 ghost use mathlib.Core.Path.{_≡_};
 ghost use Prim.Native.Nat.{_≤_, _<_};
 ghost use lib.ListN.{length};
@@ -12,14 +12,14 @@ pub fn accepts(journal: &[u8]) -> bool {
     s.accepted
 }
 
-// The first bytes of a journal with sixteen behind it.
+// Whether the first n bytes of a journal, which has sixteen bytes behind it, are accepted.
 fn accepts_first(journal: &[u8], n: usize) -> bool
     requires { ⌜ (length (now journal) ≡ 560) × (n ≤ 560) ⌝ }
 {
     accepts(&journal[..n])
 }
 
-// One byte, changed to each other value below an end, from the next one up, round to the one below.
+// Changes one byte to each other value below `end`, from the next one up, wrapping round to the one below.
 fn values(journal: &mut [u8], at: usize, end: u32, first: Tally) -> Tally
     requires { ⌜ (length (now journal) ≡ 560) × (at < 560) × (0 < end) × (end ≤ 256) ⌝ }
 {
@@ -47,7 +47,7 @@ pub fn bytes(journal: &mut [u8]) -> Tally
     t
 }
 
-// Every length from one up to below another.
+// Every length from `from` on that is below `end`.
 fn lengths_from(journal: &[u8], from: usize, end: usize, first: Tally) -> Tally
     requires { ⌜ (length (now journal) ≡ 560) × (end ≤ 561) ⌝ }
 {
@@ -60,7 +60,7 @@ fn lengths_from(journal: &[u8], from: usize, end: usize, first: Tally) -> Tally
     t
 }
 
-// Every length but that of a journal.
+// Every length except a journal's.
 pub fn lengths(journal: &[u8]) -> Tally
     requires { ⌜ length (now journal) ≡ 560 ⌝ }
 {
@@ -68,7 +68,7 @@ pub fn lengths(journal: &[u8]) -> Tally
     lengths_from(journal, 545, 561, shorter)
 }
 
-// The two slots from a place on exchanged.
+// Exchanges the two slots that start at `at`.
 fn exchange(journal: &mut [u8], at: usize)
     requires { ⌜ (length (now journal) ≡ 560) × (at ≤ 544) ⌝ }
 {
@@ -96,7 +96,7 @@ fn exchanges(journal: &mut [u8]) -> Tally
     t
 }
 
-// Slots that follow each other exchanged, and every other number of events.
+// Adjacent slots exchanged, and every other number of events.
 pub fn slots(journal: &mut [u8]) -> Tally
     requires { ⌜ length (now journal) ≡ 560 ⌝ }
 {
@@ -109,7 +109,7 @@ fn accepts_filled(value: u8) -> bool {
     accepts(&journal)
 }
 
-// Buffers of 544 bytes that are all the same.
+// Buffers of 544 equal bytes.
 pub fn filled() -> Tally {
     let mut t = none();
     let mut v: u32 = 0;

@@ -1,4 +1,4 @@
-// A journal written anew from what it says: its setup, and its events one by one.
+// A journal rewritten from what is decoded from it: its setup, and its events one by one.
 ghost use mathlib.Core.Path.{_≡_};
 ghost use Prim.Native.Nat.{_≤_};
 ghost use lib.ListN.{length};
@@ -8,7 +8,7 @@ use event_encoder::append;
 use setup_decoder::setup_in;
 use setup_encoder::write_setup;
 
-// The event at the front of a part, appended where there is room.
+// Appends the event at the front of a part, if there is room.
 fn append_first(part: &[u8], out: &mut [u8])
     requires { ⌜ (8 ≤ length (now part)) × (length (now out) ≡ 544) ⌝ }
 {

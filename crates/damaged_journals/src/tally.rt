@@ -13,7 +13,7 @@ pub fn none() -> Tally {
     }
 }
 
-// One buffer more. Its number weighs in the digest where it is accepted.
+// Counts one more buffer. If it is accepted, its number goes into the digest.
 pub fn counted(t: Tally, accepted: bool) -> Tally {
     let number = t.tried % 4294967291 + 1;
     let before = t.digest % 4294967291 * 31;

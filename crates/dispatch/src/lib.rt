@@ -1,4 +1,4 @@
-// A request made into its call, and the reply to it.
+// Making the call of a request, and writing the reply to it.
 ghost use mathlib.Core.Path.{_≡_};
 ghost use Prim.Native.Nat.{_≤_};
 ghost use lib.ListN.{length};
@@ -30,7 +30,7 @@ fn enter_keyed(journal: &mut [u8], values: &[u32]) -> Answer
     enter_engine(journal, values[0], &values[1..middle], &values[middle..])
 }
 
-// One entry is made.
+// Makes an entry.
 fn enter(journal: &mut [u8], entry: EntryRequest, values: &[u32]) -> Answer
     requires { ⌜ EnoughForEntry entry (now values) ⌝ }
     ensures { λ r. ⌜ r ≡ answer (Enter (entryFor entry (now (values .entry)))) (now (journal .entry)) ⌝ }
@@ -42,7 +42,7 @@ fn enter(journal: &mut [u8], entry: EntryRequest, values: &[u32]) -> Answer
     }
 }
 
-// The marks stand behind "OK " and take at most 80 bytes; where there are none, or the call is refused, those bytes are as they were.
+// The marks follow "OK " and take at most 80 bytes; if there are none, or the call is refused, those bytes are left unchanged.
 fn list_marks(journal: &[u8], out: &mut [u8]) -> usize
     requires { ⌜ 96 ≤ length (now out) ⌝ }
     ensures { λ r. ⌜ Replied (now (out .entry)) (queryReply (Write Marks 80) (now (journal .entry))) (now (out .exit)) r ⌝ }
@@ -54,7 +54,7 @@ fn list_marks(journal: &[u8], out: &mut [u8]) -> usize
     write_marks_front(written.length, out)
 }
 
-// One call is made.
+// Makes a call.
 fn make(journal: &mut [u8], call: CallRequest, values: &[u32], out: &mut [u8]) -> usize
     requires { ⌜ EnoughForCall call (now values) × (96 ≤ length (now out)) ⌝ }
     ensures { λ r. ⌜ Replied (now (out .entry)) (callReply (callFor call (now (values .entry))) (now (journal .entry))) (now (out .exit)) r ⌝ }
@@ -67,7 +67,7 @@ fn make(journal: &mut [u8], call: CallRequest, values: &[u32], out: &mut [u8]) -
     }
 }
 
-// The call of a request is made, or none where the line is refused.
+// Makes the call of a request, or none if the line is refused.
 pub fn carry_out(journal: &mut [u8], request: Request, values: &[u32], out: &mut [u8]) -> usize
     requires { ⌜ Enough request (now values) × (96 ≤ length (now out)) ⌝ }
     ensures { λ r. ⌜ Replied (now (out .entry)) (commandReply (commandFor request (now (values .entry))) (now (journal .entry))) (now (out .exit)) r ⌝ }

@@ -1,5 +1,5 @@
--- The rows of an engine on a year, in the parts in which the code asks them, since results can be worked only once the readings fit. That they are those
--- of `refusals`, in its order, is proved in proofs/OneEngine.
+-- An engine's rows on a year, in the parts in which the code tests them, since results can be computed only once the readings fit. proofs/OneEngine proves that
+-- these are the rows of `refusals`, in its order.
 use mathlib.Core.Bool.{not, _&&_, _||_}
 use mathlib.Core.List.{List, [], _∷_}
 use Prim.Native.Nat.{ℕ}
@@ -14,12 +14,12 @@ use Rattle.reference.specs.Refusals.{countsFit, readingsFit}
 use Rattle.refusals.specs.declared.Decision.{Decision}
 use Rattle.refusals.specs.Decisions.{decision}
 
--- asked before its results are worked
+-- tested before its results are computed
 abbrev pub askedRows : ℕ → Readings → Progress → List Row
 askedRows number readings p =
     (not (numberInRange number) || isTested number (p .tested), 10) ∷ (not (countsFit readings), 11) ∷ (not (readingsFit readings), 12) ∷ []
 
--- asked of its results, and of the number of engines tested
+-- tests of its results, and of the number of engines tested
 abbrev pub workedRows : ℕ → ℕ → ℕ → List Row
 workedRows hcnox co count = (not (resultInRange hcnox && resultInRange co), 13) ∷ (leb 40 count, 14) ∷ []
 

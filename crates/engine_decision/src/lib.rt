@@ -1,4 +1,4 @@
-// The decision on an engine: the event with the results worked from its readings, or the number of its refusal. Nothing is written.
+// The decision on an engine: the event with the results computed from its readings, or the number of its refusal. Nothing is written.
 mod readings;
 
 ghost use mathlib.Core.Path.{_≡_};
@@ -26,7 +26,7 @@ use year::Event;
 use year::MOST_ENGINES;
 use year::Pair;
 
-// 10, 11 and 12, which are asked before the results are worked.
+// Refusals 10, 11 and 12, which are tested before the results are computed.
 fn asked_refusal(p: Progress, number: u32, hcnox: &[u32], co: &[u32]) -> u8
     requires { ⌜ Consistent p ⌝ }
     ensures { λ r. ⌜ r ≡ first (askedRows number (record { hcnox = now (hcnox .entry); co = now (co .entry) }) (progressOf p)) 0 ⌝ }
@@ -44,7 +44,7 @@ fn asked_refusal(p: Progress, number: u32, hcnox: &[u32], co: &[u32]) -> u8
     0
 }
 
-// 13 and 14, of the results and the number of engines tested.
+// Refusals 13 and 14, from the results and the number of engines tested.
 fn worked_refusal(hcnox: u64, co: u64, count: usize) -> u8
     ensures { λ r. ⌜ r ≡ first (workedRows hcnox co count) 0 ⌝ }
 {
@@ -52,7 +52,7 @@ fn worked_refusal(hcnox: u64, co: u64, count: usize) -> u8
     row(!results, 13, row(MOST_ENGINES <= count, 14, 0))
 }
 
-// On a year that none of the rows that every entry may meet stands against.
+// The decision on a year to which none of the rows for every entry applies.
 fn engine_decision(p: Progress, number: u32, hcnox: &[u32], co: &[u32]) -> Decision
     requires { ⌜ Consistent p ⌝ }
     ensures { λ r. ⌜ r ≡ engineDecision number (record { hcnox = now (hcnox .entry); co = now (co .entry) }) (progressOf p) ⌝ }

@@ -1,11 +1,11 @@
-// What the table asks of an engine's readings.
+// The table's tests of an engine's readings.
 ghost use mathlib.Core.Path.{_≡_};
 ghost use Rattle.reference.specs.Refusals.{countsFit, allInRange, readingsFit};
 use conditions::both;
 use results::count_in_range;
 use results::reading_in_range;
 
-// As many readings for each pollutant, 1 to 3.
+// Equally many readings for each pollutant, 1 to 3.
 pub fn counts_fit(hcnox: &[u32], co: &[u32]) -> bool
     ensures { λ r. ⌜ r ≡ countsFit (record { hcnox = now (hcnox .entry); co = now (co .entry) }) ⌝ }
 {

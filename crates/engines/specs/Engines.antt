@@ -1,4 +1,4 @@
--- What the arrays of tested engines say, in the words of the definitions: the list of tested engines, the newest first.
+-- What the arrays of tested engines represent in the definitions: the list of tested engines, the newest first.
 use mathlib.Core.List.{List, [], _∷_}
 use Prim.Native.Nat.{ℕ, zero, suc, _≤_, _<_}
 use lib.ListN.{getD}
@@ -18,7 +18,7 @@ abbrev pub standardColumn : Pollutant → Engines → List ℕ
 standardColumn Hcnox e = e .«hcnox_standards»
 standardColumn Co e = e .«co_standards»
 
--- the engine at a place
+-- the engine at an index
 abbrev pub testedAt : Engines → ℕ → Tested
 testedAt e i =
     record {
@@ -28,7 +28,7 @@ testedAt e i =
       period = getD (e .periods) i 0;
     }
 
--- the engines before a place, the newest first
+-- the engines below an index, the newest first
 abbrev pub testedTo : Engines → ℕ → List Tested
 testedTo e zero = []
 testedTo e (suc i) = testedAt e i ∷ testedTo e i
@@ -36,12 +36,12 @@ testedTo e (suc i) = testedAt e i ∷ testedTo e i
 abbrev pub tested : Engines → List Tested
 tested e = testedTo e (e .count)
 
--- the engines before a place of one pollutant's arrays
+-- the engines below an index of one pollutant's arrays
 abbrev pub testsTo : List ℕ → List ℕ → ℕ → List Test
 testsTo results standards zero = []
 testsTo results standards (suc i) = record { result = getD results i 0; standard = getD standards i 0 } ∷ testsTo results standards i
 
--- for one engine more: there is a place, and each number fits its array
+-- for adding an engine: there is room, and each number fits its array
 pub record EngineInRange (e : Engines) (n : ℕ) (xs ts : Pair) (d : ℕ) : Type 0 where
   pub place : e .count < 40
   pub number : n ≤ 65535
@@ -49,12 +49,12 @@ pub record EngineInRange (e : Engines) (n : ℕ) (xs ts : Pair) (d : ℕ) : Type
   pub standards : (q : Pollutant) → of q ts ≤ 20000
   pub period : d ≤ 4
 
--- for figures and marks worked from the arrays: up to 40 engines in range, at a resolution of up to 8 × 1,024
+-- for figures and marks computed from the arrays: at most 40 engines in range, at a resolution of at most 8 × 1,024
 pub record EnginesInRange (e : Engines) (k : ℕ) : Type 0 where
   pub histories : (q : Pollutant) → HistoryInRange 40 (history q (tested e))
   pub fine : k ≤ 8192
 
--- the same of one pollutant's two arrays
+-- the same for one pollutant's two arrays
 pub record ColumnsInRange (results standards : List ℕ) (count k : ℕ) : Type 0 where
   pub history : HistoryInRange 40 (testsTo results standards count)
   pub fine : k ≤ 8192

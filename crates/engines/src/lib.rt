@@ -1,4 +1,4 @@
-// The tested engines of a year in code: arrays of up to 40, in the order of entry, and what is worked from them.
+// The tested engines of a year in code: arrays of up to 40, in order of entry, and what is computed from them.
 pub mod lookup;
 pub mod rework;
 pub mod store;
@@ -6,8 +6,8 @@ pub mod summary;
 
 use year::MOST_ENGINES;
 
-// Each engine's number and period, and for each pollutant its result and the standard in force when it was entered. Places from `count` on are not in use.
-// The elements are as narrow as their ranges allow, since the whole is carried by value from event to event.
+// Each engine's number and period, and for each pollutant its result and the standard in force when it was entered. Places from `count` on are unused.
+// The elements are as narrow as their ranges allow, since the whole struct is carried by value from event to event.
 pub struct Engines {
     pub count: usize,
     pub numbers: [u16; MOST_ENGINES],

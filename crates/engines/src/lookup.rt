@@ -1,4 +1,4 @@
-// Whether an engine's number is among the tested.
+// Look-up of an engine number among the tested engines.
 ghost use mathlib.Core.Path.{_≡_};
 ghost use Prim.Native.Nat.{_≤_};
 ghost use Rattle.year.specs.Replay.{isTested};

@@ -1,4 +1,4 @@
-// The figures of one pollutant worked from the arrays, at any resolution.
+// The figures of one pollutant computed from the arrays, at any resolution.
 ghost use mathlib.Core.Path.{_≡_};
 ghost use Prim.Native.Nat.{_+_, _<_};
 ghost use lib.ListN.{getD};
@@ -9,7 +9,7 @@ use figures::add;
 use figures::start;
 use year::MOST_ENGINES;
 
-// The number at a place.
+// The number at an index.
 fn number_at(numbers: [u16; MOST_ENGINES], i: usize) -> u32
     requires { ⌜ i < 40 ⌝ }
     ensures { λ r. ⌜ r ≡ getD numbers i 0 ⌝ }
@@ -17,7 +17,7 @@ fn number_at(numbers: [u16; MOST_ENGINES], i: usize) -> u32
     numbers[i] as u32
 }
 
-// The figures of the engines before a place, with the engine at that place.
+// The figures of the engines below index `i`, with the engine at `i` added.
 fn add_at(
     f: Running,
     results: [u16; MOST_ENGINES],

@@ -1,4 +1,4 @@
-// One engine more.
+// Adding an engine.
 ghost use mathlib.Core.Path.{_≡_};
 ghost use mathlib.Core.List.{[], _∷_};
 ghost use Rattle.engines.specs.Engines.{tested, EngineInRange};
@@ -6,7 +6,7 @@ use crate::Engines;
 use year::MOST_ENGINES;
 use year::Pair;
 
-// No engine.
+// Arrays with no engine.
 pub fn no_engines() -> Engines
     ensures { λ r. ⌜ tested r ≡ [] ⌝ }
 {
@@ -21,7 +21,7 @@ pub fn no_engines() -> Engines
     }
 }
 
-// One engine more, with the standards in force and its period.
+// The arrays with one more engine, with the standards in force and its period.
 pub fn with_engine(
     mut e: Engines,
     number: u32,

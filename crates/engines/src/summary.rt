@@ -12,7 +12,7 @@ use sample_size::size_reached;
 use statistics::SampleSize;
 use year::Figures;
 
-// N of one pollutant; before engine 2 there is none, so nothing is asked here.
+// N of one pollutant. Before engine 2 there is none, which `sample_size_of` sees to, so there is no test here.
 pub fn size_of(f: Running) -> SampleSize
     requires { ⌜ Worked f ⌝ }
     ensures { λ r. ⌜ ((k : ℕ) (h : List Test) → f ≡ running k h → r ≡ sampleSizeOf h) ⌝ }
@@ -40,7 +40,7 @@ pub fn with_size(f: Running, size: SampleSize) -> Figures
     }
 }
 
-// The figures with the N that is worked from them.
+// The figures with the N that is computed from them.
 pub fn figures_of(f: Running) -> Figures
     requires { ⌜ Worked f ⌝ }
     ensures { λ r. ⌜ ((k : ℕ) (h : List Test) → f ≡ running k h → r ≡ figures k (sampleSizeOf h) h) ⌝ }

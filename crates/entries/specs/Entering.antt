@@ -1,4 +1,4 @@
--- What is done with the decision on an entry, in the words of the definitions.
+-- Carrying out the decision on an entry, in terms of the definitions.
 use mathlib.Core.Path.{_≡_}
 use mathlib.Core.Bool.{true}
 use mathlib.Core.List.{List}
@@ -16,7 +16,7 @@ use Rattle.reference.specs.declared.Answer.the-variants.{Accepted, Refused}
 use Rattle.refusals.specs.declared.Decision.{Decision}
 use Rattle.refusals.specs.declared.Decision.the-variants.{Add, Refuse}
 
--- an event can be added: there is a slot for it, and the year that the state stands for admits it
+-- an event can be added: there is a slot for it, and the year that the state represents admits it
 pub record CanAdd (journal : List ℕ) (p : State) (e : Event) : Type 0 where
   pub size : length journal ≡ 544
   pub room : getD journal 24 0 < 64

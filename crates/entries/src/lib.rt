@@ -1,5 +1,6 @@
-// The public calls that write the journal: setup, and the entries of an engine and of a change. None asks anything of its arguments or of what is lent to it. Each promises its whole answer
-// (its value, which pins the case, and what it tells in the specification's numbers, `outcome`) and every byte of each buffer that it may write, refused or not.
+// The public calls that write the journal: setup, and the entries of an engine and of a change. None has a precondition, on its arguments or on lent buffers.
+// Each contract gives the whole answer (its value, which fixes the enum case, and its refusal number and figures as in the specification, `outcome`) and every
+// byte of each buffer that the call may write, refused or not.
 ghost use mathlib.Core.Path.{_≡_};
 ghost use Rattle.progress.specs.State.{progressOf};
 ghost use Rattle.reference.specs.Call.{engineEntry, EnterChange, SetUp, Enter};
@@ -34,7 +35,7 @@ pub fn set_up(journal: &mut [u8], s: Setup) -> Answer
     Answer::Accepted(status_of(start(s)))
 }
 
-// What was decided on an entry is done: an event is written into its slot, and the status of the year with it is given.
+// Carries out the decision on an entry: an added event is written into its slot, and the answer is the status of the year with it.
 fn enter(journal: &mut [u8], p: Progress, decision: Decision) -> Answer
     requires { ⌜ Enterable (now journal) p decision ⌝ }
     ensures { λ r. ⌜ r ≡ answerTo decision (progressOf p) ⌝ }
@@ -60,7 +61,7 @@ pub fn enter_engine(journal: &mut [u8], number: u32, hcnox: &[u32], co: &[u32]) 
     enter(journal, scanned.progress, decision)
 }
 
-// A change, which comes without readings: an amendment, the next period, a declaration.
+// A change, which has no readings: an amendment, the next period, a declaration.
 pub fn enter_change(journal: &mut [u8], c: Change) -> Answer
     ensures { λ r. ⌜ r ≡ answer (Enter (EnterChange c)) (now (journal .entry)) ⌝ }
     ensures { λ r. ⌜ outcomeOf r ≡ outcome (Enter (EnterChange c)) (now (journal .entry)) ⌝ }

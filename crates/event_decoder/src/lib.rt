@@ -1,4 +1,4 @@
-// What the bytes of a journal's slot say, and whether they say it in the one way that is accepted.
+// Decoding the bytes of a journal's slot, and testing that they are in the one accepted form.
 ghost use mathlib.Core.Path.{_≡_};
 ghost use Prim.Native.Nat.{_≤_};
 ghost use lib.ListN.{length};
@@ -39,7 +39,7 @@ pub fn event_at(part: &[u8]) -> Event
     Event::Declaration
 }
 
-// Whether the slot at the front of a part is of a named kind, with its unnamed bytes zero.
+// Whether the slot at the front of a part has a named kind, and its unnamed bytes are zero.
 pub fn is_slot(part: &[u8]) -> bool
     requires { ⌜ 8 ≤ length (now part) ⌝ }
     ensures { λ r. ⌜ r ≡ isSlot (now (part .entry)) ⌝ }

@@ -1,4 +1,4 @@
--- What the writer of an event asks: what is stored in one byte fits it.
+-- What writing an event requires: the number stored in one byte fits in a byte.
 use Prim.Native.Nat.{_<_}
 use Rattle.year.specs.declared.Event.{Event}
 use Rattle.journal.specs.Encode.{fieldsOf}

@@ -1,4 +1,4 @@
-// An event written into its slot of a journal, with byte 24.
+// Writing an event: its slot of the journal, and byte 24.
 ghost use mathlib.Core.Path.{_≡_};
 ghost use Prim.Native.Nat.{_<_};
 ghost use lib.ListN.{length, getD};
@@ -9,7 +9,7 @@ use buffers::little_endian::write_numbers;
 use year::Event;
 use year::Pair;
 
-// Writes a slot: its kind, the readings, and three numbers of two bytes.
+// Writes a slot: its kind, the readings, and three two-byte numbers.
 fn write_slot(part: &mut [u8], kind: u32, readings: u32, numbers: Pair, number: u32)
     requires { ⌜ (length (now part) ≡ 8) × (kind < 256) × (readings < 256) ⌝ }
     ensures { λ _. ⌜ now (part .exit) ≡ slot (record { kind = kind; readings = readings; first = numbers .hcnox; second = numbers .co; third = number }) ⌝ }
@@ -23,7 +23,7 @@ fn write_slot(part: &mut [u8], kind: u32, readings: u32, numbers: Pair, number: 
     );
 }
 
-// Writes an event into the slot that is lent.
+// Writes an event into the lent slot.
 fn write_event(part: &mut [u8], e: Event)
     requires { ⌜ (length (now part) ≡ 8) × EventFits e ⌝ }
     ensures { λ _. ⌜ now (part .exit) ≡ slotOf e ⌝ }
@@ -41,7 +41,7 @@ fn write_event(part: &mut [u8], e: Event)
     }
 }
 
-// Writes one event more: its slot, and the number of events in byte 24.
+// Appends an event: writes its slot, and the number of events in byte 24.
 pub fn append(journal: &mut [u8], e: Event)
     requires { ⌜ (length (now journal) ≡ 544) × (getD (now journal) 24 0 < 64) × EventFits e ⌝ }
     ensures { λ _. ⌜ now (journal .exit) ≡ append (now (journal .entry)) e ⌝ }

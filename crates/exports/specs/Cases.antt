@@ -1,5 +1,5 @@
 -- Worked cases of an answer as numbers: the status after document 01's second engine ("Cases on the edges"; the whole run), and that of a refusal; and of the
--- exported functions, at the sizes of slices that include/plt.h names.
+-- exported functions, at the slice sizes that include/plt.h names.
 use mathlib.Core.Path.{_≡_}
 use mathlib.Core.List.{[], _∷_, _++_}
 use lib.ListN.{replicate}
@@ -47,19 +47,19 @@ pub record Cases : Type 0 where
   -- "every other figure of the answer zero, marks '-', N absent"
   pub refusedNumbers : statusNumbers noStatus
       ≡ 0 ∷ 0 ∷ 0 ∷ 0 ∷ 0 ∷ 0 ∷ 0 ∷ 0 ∷ 0 ∷ 0 ∷ byte "-" ∷ 0 ∷ 0 ∷ 0 ∷ 0 ∷ 0 ∷ 0 ∷ 0 ∷ 0 ∷ byte "-" ∷ []
-  -- on a journal of no byte, where what is done is refused by 3: "NO 3" in 96 bytes, and nothing in 95
+  -- on an empty journal, where every call is refused by 3: "NO 3" with 96 bytes of output, and nothing with 95
   pub replied : replyCount (text "X") [] (zeros 96) ≡ 4
   pub shortOutput : replyCount (text "X") [] (zeros 95) ≡ 0
   pub replyAtFront : replyLeft (text "X") [] (zeros 96) ≡ text "NO 3" ++ zeros 92
   pub replyKept : replyLeft (text "X") [] (zeros 95) ≡ zeros 95
-  -- a declaration keyed with 96 bytes for its reply, and with 95, when nothing is done
+  -- a declaration keyed with 96 bytes for its reply, and with 95, where nothing is done
   pub lineDone : lineLeft (text "X") (encode (setupOf 5000 800) []) (zeros 96) ≡ encode (setupOf 5000 800) (Declaration ∷ [])
   pub lineNotDone : lineLeft (text "X") (encode (setupOf 5000 800) []) (zeros 95) ≡ encode (setupOf 5000 800) []
-  -- twenty figures, and nineteen
+  -- room for twenty figures, and for nineteen
   pub given : refusalGiven (Ask ReadStatus) [] (zeros 20) ≡ 3
   pub fewFigures : refusalGiven (Ask ReadStatus) [] (zeros 19) ≡ 255
   pub figuresAtFront : figuresLeft (Ask ReadStatus) [] (replicate 20 7) ≡ statusNumbers noStatus
   pub figuresKept : figuresLeft (Ask ReadStatus) [] (replicate 19 7) ≡ replicate 19 7
-  -- an accepted engine stands in the journal; with nineteen figures nothing is done
+  -- an accepted engine is in the journal; with room for nineteen figures nothing is done
   pub entered : journalLeft engineOne (encode (setupOf 5000 800) []) (zeros 20) ≡ encode (setupOf 5000 800) (engine 1 998 ∷ [])
   pub notEntered : journalLeft engineOne (encode (setupOf 5000 800) []) (zeros 19) ≡ encode (setupOf 5000 800) []

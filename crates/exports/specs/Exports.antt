@@ -1,5 +1,5 @@
--- What an exported function answers, and what it leaves in the slices lent to it. A slice may be too short for what is to be written at its front: then nothing
--- is done. Else the answer is the call's own (document 01, "How far a contract must reach").
+-- What an exported function answers, and what it leaves in the slices lent to it. If a slice is too short for what is to be written at its front, nothing is
+-- done; otherwise the answer is the call's own (document 01, "How far a contract must reach").
 use mathlib.Core.Path.{_≡_}
 use mathlib.Core.Bool.{cond}
 use mathlib.Core.List.{List}
@@ -12,12 +12,12 @@ use Rattle.reference.specs.Answers.{outcome, journalAfter}
 use Rattle.protocol.specs.Reply.{replyTo, journalAfterLine}
 use Rattle.exports.specs.Numbers.{statusNumbers}
 
--- a value where a lent slice has no room for so many numbers, and one where it has
+-- the first value if a lent slice is shorter than `size`, otherwise the second
 module _ {A : Type 0} where
   abbrev pub ifShort : ℕ → List ℕ → A → A → A
   ifShort size lent short long = cond (ltb (length lent) size) short long
 
--- a key line: how many bytes its reply has (0, which no reply has, where 96 bytes are too many for the output), the output, the journal
+-- a key line: the length of its reply (0, which no reply has, if the output is shorter than 96 bytes), the output, the journal
 module _ (line journal out : List ℕ) where
   unfoldable pub replyCount : ℕ
   replyCount = ifShort 96 out 0 (length (replyTo line journal))
@@ -28,7 +28,7 @@ module _ (line journal out : List ℕ) where
   unfoldable pub lineLeft : List ℕ
   lineLeft = ifShort 96 out journal (journalAfterLine line journal)
 
--- a call that answers a status: its refusal, 0 for none (255, which no refusal is, where the figures are fewer than twenty), the figures, the journal
+-- a call that answers a status: its refusal, 0 for none (255, which no refusal is, if there is no room for twenty figures), the figures, the journal
 module _ (call : Call) (journal figures : List ℕ) where
   unfoldable pub refusalGiven : ℕ
   refusalGiven = ifShort 20 figures 255 (outcome call journal .refusal)
@@ -39,7 +39,7 @@ module _ (call : Call) (journal figures : List ℕ) where
   unfoldable pub journalLeft : List ℕ
   journalLeft = ifShort 20 figures journal (journalAfter call journal)
 
--- 0 and 255 tell that a slice is too short, and nothing else
+-- 0 and 255 mean that a slice is too short, and nothing else
 pub record ShortApart : Type 0 where
   pub reply : (line journal out : List ℕ) → replyCount line journal out ≡ 0 → length out < 96
   pub figures : (call : Call) (journal figures : List ℕ) → refusalGiven call journal figures ≡ 255 → length figures < 20

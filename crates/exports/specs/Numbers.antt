@@ -16,16 +16,16 @@ abbrev pub sizeNumber : SampleSize → ℕ
 sizeNumber (Tenths tenths) = tenths
 sizeNumber Absent = 0
 
--- nine for a pollutant, the mark as its byte
+-- a pollutant's nine numbers, the mark as its byte
 unfoldable pub pollutantNumbers : Figures → List ℕ
 pollutantNumbers f =
     f .sum ∷ f .deviation .floor ∷ f .deviation .inexact ∷ f .cumsum .low ∷ f .cumsum .high ∷ f .limit .low ∷ f .limit .high ∷ sizeNumber (f .size)
     ∷ markByte (f .mark) ∷ []
 
--- twenty in all: n and the verdict, HC+NOx, CO
+-- the twenty numbers of a status: n and the verdict, HC+NOx, CO
 unfoldable pub statusNumbers : Status → List ℕ
 statusNumbers s = (s .n ∷ s .verdict ∷ []) ++ pollutantNumbers (s .hcnox) ++ pollutantNumbers (s .co)
 
--- 0 is told where there is no N, and nowhere else
+-- 0 means that there is no N, and nothing else
 abbrev pub NoneApart : Type 0
 NoneApart = (h : List Test) → sizeNumber (sampleSizeOf h) ≡ 0 → sampleSizeOf h ≡ Absent

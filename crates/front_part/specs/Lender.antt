@@ -1,7 +1,7 @@
--- What a call that hands back the front part of a lent buffer promises of the bytes behind that part.
--- The part keeps the buffer lent, so the contract has no `.exit` of the buffer. What its lender finds when the borrow ends is told by the buffer's ghost name instead,
--- as `.exit` tells it of any other buffer: at the part's places whatever was written through the part, which is not told, and behind them exactly these bytes. No
--- reference to them is left, so nobody writes them in between. The law `front_part/proofs/Lender: lender-finds` draws from the promise that the memory holds them.
+-- What a call that hands back the front part of a lent buffer promises about the bytes behind that part.
+-- The part keeps the buffer borrowed, so the contract has no `.exit` of the buffer. Instead, the buffer's ghost name says what the lender finds when the borrow
+-- ends, as `.exit` does for any other buffer: within the part, whatever was written through it, which is left open; behind it, exactly these bytes. No
+-- reference to them remains, so nobody writes them in between. The law `front_part/proofs/Lender: lender-finds` derives from this that memory holds them.
 use mathlib.Core.Path.{_≡_}
 use mathlib.Core.List.{List, _++_}
 use Prim.Native.Nat.{ℕ}

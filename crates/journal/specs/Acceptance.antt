@@ -1,6 +1,5 @@
--- Document 01, "The book", told part by part: "A book is accepted exactly if its first 32 bytes are as above and its events could have been entered in that
--- order", with "Unnamed bytes and unused slots are zero." That `readJournal` accepts exactly these is `ifAcceptable` and
--- `onlyIfAcceptable` of OneJournal.
+-- Document 01, "The book", part by part: "A book is accepted exactly if its first 32 bytes are as above and its events could have been entered in that order",
+-- with "Unnamed bytes and unused slots are zero." `ifAcceptable` and `onlyIfAcceptable` of OneJournal state that `readJournal` accepts exactly these.
 use mathlib.Core.Path.{_≡_}
 use mathlib.Core.Bool.{Bool, true, _&&_}
 use mathlib.Core.List.{List}
@@ -13,20 +12,20 @@ use Rattle.year.specs.Admissible.{admissible}
 use Rattle.journal.specs.Encode.{header, slotOf, slotPlace}
 use Rattle.journal.specs.Read.{setupIn, eventIn, eventsIn}
 
--- the first 32 bytes are the header of the setup and the number of events that they say, whether or not these are in range
+-- the first 32 bytes are exactly the header that encodes the setup and number of events decoded from them, whether or not these are in range
 unfoldable pub isHeader : List ℕ → Bool
 isHeader journal = same (header (setupIn journal) (getD journal 24 0)) (take 32 journal)
 
--- the eight bytes at the front of a part are the slot of the event that they say
+-- the eight bytes at the front of a part are exactly the slot that encodes the event decoded from them
 unfoldable pub isSlot : List ℕ → Bool
 isSlot part = same (slotOf (eventIn part)) (take 8 part)
 
--- slot j is that of an event which could be entered after those of the slots before it
+-- slot j encodes an event that could be entered after those of the slots before it
 unfoldable pub entersAt : List ℕ → ℕ → Bool
 entersAt journal j =
     isSlot (drop (slotPlace j) journal) && admissible (replay (setupIn journal) (eventsIn journal j)) (eventIn (drop (slotPlace j) journal))
 
--- each of the first slots is so
+-- the same for each of the first slots
 abbrev pub entersUpTo : List ℕ → ℕ → Bool
 entersUpTo journal zero = true
 entersUpTo journal (suc j) = entersUpTo journal j && entersAt journal j

@@ -29,7 +29,7 @@ differing =
       factors = record { hcnox = record { kind = 1; value = 1050 }; co = record { kind = 0; value = 25 } };
     }
 
--- each kind of event: engines of two readings and of three, an amendment, a next period, a declaration
+-- each kind of event: engines with two and with three readings, an amendment, a next period, a declaration
 abbrev eachKind : List Event
 eachKind = Declaration ∷ NextPeriod ∷ Amendment (pair 700 6000) ∷ Engine 65535 3 (pair 800 5000) ∷ Engine 258 2 (pair 800 5000) ∷ []
 
@@ -55,7 +55,7 @@ pub record Cases : Type 0 where
   pub readOne : readJournal one ≡ Year (setupOf 5000 800) (engine 1 998 ∷ [])
   pub readTwo : readJournal (encode (setupOf 5000 800) (Declaration ∷ engine 1 998 ∷ [])) ≡ Year (setupOf 5000 800) (Declaration ∷ engine 1 998 ∷ [])
   pub readZeros : readJournal (zeros 544) ≡ NoSetup
-  -- refused: another version, an unnamed byte that is not zero (in the header, in a slot, in an unused slot), a kind 5, one byte more or less
+  -- refused: another version, an unnamed byte that is not zero (in the header, in a slot, in an unused slot), kind 5, one byte too many or too few
   pub otherVersion : readJournal (set none 3 2) ≡ NoSetup
   pub dirtyHeader : readJournal (set none 25 1) ≡ NoSetup
   pub dirtySlot : readJournal (set (encode (setupOf 5000 800) (Declaration ∷ engine 1 998 ∷ [])) 41 1) ≡ NoSetup

@@ -22,7 +22,7 @@ header s count =
     -- 24 number of events; 25–31 zero
     ++ (count ∷ zeros 7)
 
--- what a slot holds: the kind, readings per pollutant, and three numbers of two bytes
+-- what a slot holds: the kind, readings per pollutant, and three two-byte numbers
 pub record Fields : Type 0 where
   pub kind : ℕ
   pub readings : ℕ
@@ -61,6 +61,6 @@ encode s es = header s (length es) ++ slots es ++ zeros (512 - 8 * length es)
 abbrev pub slotPlace : ℕ → ℕ
 slotPlace j = 32 + 8 * j
 
--- "Each other entry writes its slot and byte 24": slot j, where byte 24 has the number j of events so far, and then j + 1
+-- "Each other entry writes its slot and byte 24": slot j, where j is the number of events so far, in byte 24, which becomes j + 1
 abbrev pub append : List ℕ → Event → List ℕ
 append journal e = put (put journal (slotPlace (getD journal 24 0)) (slotOf e)) 24 ((getD journal 24 0 + 1) ∷ [])

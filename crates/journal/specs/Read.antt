@@ -1,5 +1,5 @@
--- Document 01, "The book": what a buffer of any length and content is read as. A setup and events are taken from the bytes, whatever they are; the journal is
--- accepted exactly if these are the bytes of that setup and those events, and they could have been entered in that order.
+-- Document 01, "The book": what a buffer of any length and content is read as. A setup and events are decoded from the bytes, whatever they are; the journal is
+-- accepted exactly if encoding these gives the same bytes, and they could have been entered in that order.
 use mathlib.Core.Bool.{cond, _&&_}
 use mathlib.Core.List.{List, [], _∷_}
 use Prim.Native.Nat.{ℕ, zero, suc}
@@ -27,8 +27,7 @@ setupIn journal =
           };
     }
 
--- the event that a part of the journal, from a slot's start on, begins with. Any kind other than 1, 2 and 3 is taken
--- for 4, and accepted only if it is 4
+-- the event in the slot at the front of a part of the journal. Any kind other than 1, 2 and 3 is decoded as 4, and accepted only if it is 4
 abbrev pub eventIn : List ℕ → Event
 eventIn part =
     cond (eqb (getD part 0 0) 1)

@@ -1,7 +1,7 @@
 // The stored journal ("book" in document 01): 544 bytes for each setup and list of events. The definitions are in specs/.
 
-// The bytes of a journal.
+// The number of bytes in a journal.
 pub const JOURNAL_SIZE: usize = 544;
 
-// The slots of a journal.
+// The number of slots in a journal.
 pub const SLOTS: usize = 64;

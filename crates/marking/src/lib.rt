@@ -1,4 +1,4 @@
-// The intervals of CumSum and of the action limit, and the mark that they give (document 01, "Spread, brackets, marks"). The definitions are those of the crate
+// The intervals of CumSum and of the action limit, and the mark that they give (document 01, "Spread, brackets, marks"). The definitions are in the crate
 // cumsum.
 pub mod limits;
 pub mod marks;

@@ -1,4 +1,4 @@
-// The intervals.
+// The intervals of the action limit H and of CumSum C.
 ghost use mathlib.Core.Path.{_≡_};
 ghost use Prim.Native.Nat.{_+_, _≤_, _<_};
 ghost use Rattle.cumsum.specs.Intervals.{next, nextCumsum, limitOf};
@@ -19,7 +19,7 @@ pub fn action_limit(d: Deviation) -> Interval
     }
 }
 
-// One end of C with one engine more: max(0, previous + 4k × (X − T) − w).
+// One end of C with one more engine: max(0, previous + 4k × (X − T) − w).
 fn next_sum(previous: u64, resolution: u64, result: u32, standard: u32, w: u64) -> u64
     requires { ⌜ NextInRange previous resolution w ⌝ }
     ensures { λ r. ⌜ r ≡ next resolution (record { result = result; standard = standard }) w previous ⌝ }
@@ -32,7 +32,7 @@ fn next_sum(previous: u64, resolution: u64, result: u32, standard: u32, w: u64) 
     up - down
 }
 
-// C with one engine more: the low end takes s + e off, the high end s.
+// C with one more engine: s + e is subtracted at the low end, s at the high end.
 pub fn next_cumsum(
     previous: Interval,
     resolution: u64,

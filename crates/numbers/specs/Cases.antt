@@ -1,4 +1,4 @@
--- Worked cases of what the numbers of a line tell.
+-- Worked cases of reading a line's numbers.
 use mathlib.Core.Path.{_≡_}
 use mathlib.Core.List.{[], _∷_}
 use lib.ListN.{length}

@@ -16,7 +16,7 @@ abbrev pub counted : Option (List ℕ) → Numbers
 counted (some vs) = Count (length vs)
 counted none = Refused 2
 
--- the numbers read, none of a refused line
+-- the numbers read; none for a refused line
 abbrev pub listed : Option (List ℕ) → List ℕ
 listed (some vs) = vs
 listed none = []
@@ -33,7 +33,7 @@ abbrev pub numbersOutcomeOf : Numbers → NumbersOutcome
 numbersOutcomeOf (Count n) = record { refusal = 0; count = n }
 numbersOutcomeOf (Refused number) = record { refusal = number; count = 0 }
 
--- the same of a line: "a letter, then numbers, each after one space", or "2. The key line is not of the form above."
+-- the same for a line: "a letter, then numbers, each after one space", or "2. The key line is not of the form above."
 abbrev pub formRefusal : Option (List ℕ) → ℕ
 formRefusal (some vs) = 0
 formRefusal none = 2
@@ -43,8 +43,8 @@ numbersOutcome line =
     let read = numbersFrom (length line) line 1 in
     record { refusal = formRefusal read; count = length (listed read) }
 
--- the numbers that are read from a position on, up to the line's end or to where no number can be read. Document 01 asks for none of a refused line; this says what is
--- left of them in the lent values
+-- the numbers read from a position on, up to the end of the line or to where no number can be read. Document 01 gives no numbers for a refused line; this says
+-- which ones are left in the lent values
 abbrev pub andRead : Number → (ℕ → List ℕ) → List ℕ
 andRead (Value v next) more = v ∷ more next
 andRead Nothing more = []

@@ -9,7 +9,7 @@ ghost use Rattle.numbers.specs.Numbers.{counted, listed, numbersOutcomeO
 use protocol::Number;
 use reader::read_number;
 
-// What is read of a line's numbers: how many there are, or the refusal of a line that is not of the form.
+// The result of reading a line's numbers: how many there are, or the refusal of a line that is not of the form.
 pub enum Numbers {
     Count(usize),
     Refused(u8),

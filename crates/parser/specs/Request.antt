@@ -1,4 +1,4 @@
--- What each request stands for among the commands of the key line (document 01, "Key line").
+-- The key line's command that each request represents (document 01, "Key line").
 use mathlib.Core.Path.{_≡_}
 use mathlib.Core.List.{List}
 use mathlib.Core.Option.{Option}
@@ -41,7 +41,7 @@ abbrev pub Enough : Request → List ℕ → Type 0
 Enough (Make call) vs = EnoughForCall call vs
 Enough (Refuse number) vs = Unit {0}
 
--- a request asks for a call, or to be refused by 2 where there is none
+-- a request represents a call, or a refusal by 2 if there is none
 pub record Requests (request : Request) (vs : List ℕ) (call : Option calls.Call) : Type 0 where
   pub command : commandFor request vs ≡ lines.asked call
   pub enough : Enough request vs

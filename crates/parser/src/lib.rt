@@ -1,4 +1,4 @@
-// From a letter and its numbers to what a line asks for: the second step, which sees neither the line nor a journal.
+// From a letter and its numbers to what a line asks for: the second step of parsing, which sees neither the line nor a journal.
 ghost use mathlib.Core.Path.{_≡_};
 ghost use lib.ListN.{length};
 ghost use Rattle.protocol.specs.KeyLine.{setupFrom, engineFrom, amendmentFrom, ofCount, changeOf, ofPairs, callOf};
@@ -16,14 +16,14 @@ pub enum EntryRequest {
     Change(Change),
 }
 
-// The call that it asks for.
+// The call that a line asks for.
 pub enum CallRequest {
     SetUp(Setup),
     Enter(EntryRequest),
     WriteMarks,
 }
 
-// What a line comes to: a call, or its refusal.
+// What a line asks for: a call, or its refusal.
 pub enum Request {
     Make(CallRequest),
     Refuse(u8),
@@ -63,7 +63,7 @@ fn setup_request(values: &[u32]) -> Request
     Request::Make(CallRequest::SetUp(setup_from(values)))
 }
 
-// "An odd count of readings is refused by 2": with the engine's number, an even count of numbers. How many readings there are is for the call to judge.
+// "An odd count of readings is refused by 2": with the engine's number, that is an even count of numbers. The call judges how many readings there are.
 fn engine_request(values: &[u32]) -> Request
     ensures { λ r. ⌜ Requests r (now (values .entry)) (ofPairs (now (values .entry)) (Enter (engineFrom (now (values .entry))))) ⌝ }
 {
@@ -97,7 +97,7 @@ fn bare_request(call: CallRequest, values: &[u32]) -> Request
     Request::Make(call)
 }
 
-// What a letter with its numbers asks for.
+// What a letter and its numbers ask for.
 pub fn requested(letter: u8, values: &[u32]) -> Request
     ensures { λ r. ⌜ Requests r (now (values .entry)) (callOf letter (now (values .entry))) ⌝ }
 {

@@ -1,5 +1,5 @@
 // Production-line testing for programs in other languages: the key line, an engine's entry, status and the marks, on a lent journal. include/plt.h has the same
-// functions for C. A slice is a pointer and a length. Nothing is asked of what is lent, and every byte and number of it is promised.
+// functions for C. A slice is a pointer and a length. There is no precondition on what is lent, and the contracts give every byte and number of it.
 ghost use mathlib.Core.Path.{_≡_};
 ghost use Prim.Native.Nat.{_<_};
 ghost use Rattle.reference.specs.Call.{engineEntry, Marks, ReadStatus, Enter, Ask};
@@ -13,7 +13,7 @@ use queries::read_status;
 use queries::write_marks;
 use text::put_bytes;
 
-// A key line, without its newline: the reply at the front of the output, and how many bytes it has. With under 96 bytes of output nothing is done, and 0 answered.
+// A key line without its newline: puts its reply at the front of the output and returns its length. With under 96 bytes of output, does nothing and returns 0.
 #[no_mangle]
 pub extern "C" fn plt_command(journal: &mut [u8], line: &[u8], out: &mut [u8]) -> usize
     ensures { λ r. ⌜ r ≡ replyCount (now (line .entry)) (now (journal .entry)) (now (out .entry)) ⌝ }
@@ -29,8 +29,8 @@ pub extern "C" fn plt_command(journal: &mut [u8], line: &[u8], out: &mut [u8]) -
     put_bytes(&text[..count], out, 0)
 }
 
-// An engine with its number and its readings for each pollutant: the refusal, 0 for none, and the figures of the year with it. With under twenty figures nothing is
-// done, and 255 answered.
+// An engine with its number and its readings for each pollutant: returns the refusal, 0 for none, and writes the figures of the year with it. With
+// room for under twenty figures, does nothing and returns 255.
 #[no_mangle]
 pub extern "C" fn plt_engine(
     journal: &mut [u8],
@@ -49,7 +49,7 @@ pub extern "C" fn plt_engine(
     put_answer(figures, enter_engine(journal, number, hcnox, co))
 }
 
-// Status: the refusal, 0 for none, and the figures. With under twenty figures nothing is done, and 255 answered.
+// Status: returns the refusal, 0 for none, and writes the figures. With room for under twenty figures, does nothing and returns 255.
 #[no_mangle]
 pub extern "C" fn plt_status(journal: &[u8], figures: &mut [u64]) -> u8
     ensures { λ r. ⌜ r ≡ refusalGiven (Ask ReadStatus) (now (journal .entry)) (now (figures .entry)) ⌝ }
@@ -61,7 +61,7 @@ pub extern "C" fn plt_status(journal: &[u8], figures: &mut [u64]) -> u8
     put_answer(figures, read_status(journal))
 }
 
-// Marks: the refusal, 0 for none, the marks at the front of the output, and how many bytes of it they are.
+// Marks: returns the refusal, 0 for none, and writes the marks at the front of the output, and into `written` how many bytes they are.
 #[no_mangle]
 pub extern "C" fn plt_marks(journal: &[u8], out: &mut [u8], written: &mut usize) -> u8
     ensures { λ r. ⌜ r ≡ outputAnswer Marks (now (journal .entry)) (now (out .entry)) .refusal ⌝ }

@@ -20,8 +20,8 @@ use spread::summing::no_sums;
 use spread::variance::deviation_of;
 use year::MOST_ENGINES;
 
-// The marks of one pollutant's engines as bytes, at any resolution. Only the sums and C go on from engine to engine: a mark needs no more, and all figures would
-// be copied by value at each engine.
+// The marks of one pollutant's engines as bytes, at any resolution. Only the sums and C are carried from engine to engine: a mark needs no more, and all
+// figures would be copied by value at each engine.
 fn mark_column(
     results: [u16; MOST_ENGINES],
     standards: [u16; MOST_ENGINES],
@@ -49,7 +49,7 @@ fn mark_column(
     column
 }
 
-// Writes the two marks of one engine from a place on, HC+NOx then CO.
+// Writes one engine's two marks at `place`, HC+NOx then CO.
 fn print_pair(out: &mut [u8], place: usize, hcnox: u8, co: u8)
     requires { ⌜ place + 2 ≤ length (now out) ⌝ }
     ensures { λ _. ⌜ now (out .exit) ≡ put (now (out .entry)) place (hcnox ∷ co ∷ []) ⌝ }
@@ -58,7 +58,7 @@ fn print_pair(out: &mut [u8], place: usize, hcnox: u8, co: u8)
     out[place + 1] = co;
 }
 
-// Writes the marks of all engines at the front of a lent buffer, in the order of entry. The rest of the buffer stays.
+// Writes the marks of all engines at the front of a lent buffer, in order of entry. The rest of the buffer is unchanged.
 pub fn print_marks(engines: Engines, resolution: u64, out: &mut [u8])
     requires { ⌜ EnginesInRange engines resolution × (2 * engines .count ≤ length (now out)) ⌝ }
     ensures { λ _. ⌜ now (out .exit) ≡ put (now (out .entry)) 0 (map markByte (printedMarks judged resolution (tested engines))) ⌝ }

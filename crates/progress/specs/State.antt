@@ -1,4 +1,4 @@
--- What the state of the code says, in the words of the definitions, and what it carries beside it so that nothing is worked twice.
+-- What the code's state represents in the definitions, and what it carries along so that nothing is computed twice.
 use mathlib.Core.Path.{_≡_}
 use Prim.Native.Nat.{ℕ}
 use Rattle.year.specs.Setup.{Hcnox, Co}
@@ -10,7 +10,7 @@ use Rattle.engines.specs.declared.Engines.{Engines}
 use Rattle.engines.specs.Engines.{tested}
 use Rattle.progress.specs.declared.Progress.{Progress as State}
 
--- the progress of the year that a state stands for
+-- the progress of the year that a state represents
 abbrev pub progressOf : State → Progress
 progressOf p =
     record {
@@ -22,19 +22,19 @@ progressOf p =
       declared = p .declared;
     }
 
--- two pollutants' figures are those of the tested engines at resolution k
+-- the figures of both pollutants are those of the tested engines at resolution k
 pub record Figured (k : ℕ) (e : Engines) (h o : Running) : Type 0 where
   pub hcnox : h ≡ running k (history Hcnox (tested e))
   pub co : o ≡ running k (history Co (tested e))
 
--- the year is in range, and what is carried beside it is what is worked from it: the engines of the current period, and the figures of both pollutants
--- at resolution 1,024
+-- the year is in range, and what the state carries along agrees with it: the number of engines in the current period, and the figures of both pollutants at
+-- resolution 1,024
 pub record Consistent (p : State) : Type 0 where
   pub inRange : InRange (progressOf p)
   pub current : p .current ≡ testedIn (p .period) (tested (p .engines))
   pub figures : Figured 1024 (p .engines) (p .hcnox) (p .co)
 
--- for a verdict by other figures: they are the year's at some resolution
+-- for a verdict from other figures: these are the year's at some resolution
 pub record Judged (p : State) (h o : Running) : Type 0 where
   pub consistent : Consistent p
   pub resolution : ℕ

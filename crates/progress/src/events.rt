@@ -1,4 +1,4 @@
-// One event more.
+// Adding an event.
 ghost use mathlib.Core.Path.{_≡_};
 ghost use mathlib.Core.Bool.{true};
 ghost use Rattle.year.specs.Setup.{setupInRange};
@@ -32,7 +32,7 @@ pub fn start(setup: Setup) -> Progress
     }
 }
 
-// An engine: both pollutants' figures go on under the standards in force.
+// An engine: it is added to both pollutants' figures under the standards in force.
 fn engine(p: Progress, number: u32, readings: u32, results: Pair) -> Progress
     requires { ⌜ Consistent p × (admissible (progressOf p) (Event.Engine number readings results) ≡ true) ⌝ }
     ensures { λ r. ⌜ progressOf r ≡ after (Event.Engine number readings results) (progressOf p) ⌝ }
@@ -56,7 +56,8 @@ fn engine(p: Progress, number: u32, readings: u32, results: Pair) -> Progress
     }
 }
 
-// One event more that could be entered. `enter_slots` of the crate scan takes the same step in place, its arms in the same order: a change of one is a change of both.
+// The state with one more event, which must be admissible. `enter_slots` of the crate scan takes the same step in place, its arms in the same order: a change
+// to one must be made to both.
 pub fn after(p: Progress, e: Event) -> Progress
     requires { ⌜ Consistent p × (admissible (progressOf p) e ≡ true) ⌝ }
     ensures { λ r. ⌜ progressOf r ≡ after e (progressOf p) ⌝ }

@@ -1,4 +1,4 @@
-// The progress of a model year in code: one value that is carried from event to event. The definitions are those of the crate year.
+// The progress of a model year in code: one value that is carried from event to event. The definitions are in the crate year.
 pub mod events;
 pub mod rework;
 
@@ -7,8 +7,8 @@ use figures::Running;
 use year::Pair;
 use year::Setup;
 
-// The setup, the standards in force, the current period, the tested engines, the number of stored events, whether a declaration was made. Beside them, worked
-// once and carried on: how many engines the current period has, and the figures of both pollutants at resolution 1,024.
+// The setup, the standards in force, the current period, the tested engines, the number of stored events, whether a declaration was made. Also, computed once
+// and carried along: the number of engines in the current period, and the figures of both pollutants at resolution 1,024.
 pub struct Progress {
     pub setup: Setup,
     pub standards: Pair,

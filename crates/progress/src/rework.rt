@@ -1,4 +1,4 @@
-// The figures of a year worked anew from its engines, at any resolution.
+// The figures of a year recomputed from its engines, at any resolution.
 ghost use mathlib.Core.Path.{_≡_};
 ghost use Rattle.year.specs.Setup.{Hcnox, Co};
 ghost use Rattle.year.specs.Replay.{history};

@@ -17,7 +17,7 @@ use Rattle.protocol.specs.Reply.{refusalReply, marksReply, statusReply}
 use Rattle.ascii.specs.Decimal.{decimal}
 use Rattle.protocol.specs.Run.{linesOf, run}
 
--- figures of which a reply shows the mark and the sample size
+-- figures for a reply, which shows only their mark and sample size
 abbrev pub marked : Mark → SampleSize → Figures
 marked mark size =
     record {
@@ -47,7 +47,7 @@ pub record Cases : Type 0 where
       }))
   -- the HC+NOx readings come first
   pub fourReadings : commandOf (text "E 7 1 2 3 4") ≡ Make (Enter (EnterEngine 7 (record { hcnox = 1 ∷ 2 ∷ []; co = 3 ∷ 4 ∷ [] })))
-  -- an even count of readings is for the call to judge, also none and eight, and as many as a line holds; an odd count, and no engine number, is not of the form
+  -- the call judges an even count of readings, even none, eight or a full line; with an odd count, or no engine number, the line is not of the form
   pub noReadings : commandOf (text "E 7") ≡ Make (Enter (EnterEngine 7 (record { hcnox = []; co = [] })))
   pub eightReadings : commandOf (text "E 7 1 1 1 1 2 2 2 2")
       ≡ Make (Enter (EnterEngine 7 (record { hcnox = 1 ∷ 1 ∷ 1 ∷ 1 ∷ []; co = 2 ∷ 2 ∷ 2 ∷ 2 ∷ [] })))
@@ -60,7 +60,7 @@ pub record Cases : Type 0 where
   pub nineDigits : commandOf (text "A 100000000 0") ≡ Refuse 2
   pub leadingZero : commandOf (text "A 0800 6100") ≡ Refuse 2
   pub twoZeros : commandOf (text "A 00 0") ≡ Refuse 2
-  -- a number at a position, and none, which is refused by 2 with every other figure zero
+  -- a number at a position, and no number there, which is refused by 2 with every other figure zero
   pub numberRead : numberOutcome (text "A 800 6100") 6 ≡ record { refusal = 0; value = 6100; next = 10 }
   pub numberRefused : numberOutcome (text "A 0800 6100") 2 ≡ record { refusal = 2; value = 0; next = 0 }
   pub spacedRead : spacedOutcome (text "A 800 6100") 1 ≡ record { refusal = 0; value = 800; next = 5 }
@@ -94,7 +94,7 @@ pub record Cases : Type 0 where
   pub twoLines : linesOf (text "P\nX") ≡ text "P" ∷ text "X" ∷ []
   pub threeLines : linesOf (text "P\n\nX\n") ≡ text "P" ∷ [] ∷ text "X" ∷ []
   pub emptyLast : linesOf (text "P\n\n") ≡ text "P" ∷ [] ∷ []
-  -- replies that the run lacks
+  -- replies that do not occur in the run below
   pub fourDigits : decimal 1234 ≡ text "1234"
   pub refusedBy16 : refusalReply 16 ≡ text "NO 16"
   pub noMarks : marksReply [] ≡ text "OK"

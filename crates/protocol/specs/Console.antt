@@ -1,4 +1,4 @@
--- Document 01, "Key line": the program's output as its input comes, byte by byte, with no more than 65 bytes of a line held.
+-- Document 01, "Key line": the program's output as its input arrives, byte by byte, with at most 65 bytes of a line held.
 use mathlib.Core.Path.{_≡_}
 use mathlib.Core.Bool.{cond}
 use mathlib.Core.List.{List, [], _∷_, _++_}
@@ -10,11 +10,11 @@ use Rattle.ascii.specs.Text.{byte}
 use Rattle.protocol.specs.Reply.{replyTo, journalAfterLine}
 use Rattle.protocol.specs.Run.{linesOf, journalAfterLines, run}
 
--- a line and its next byte. "1. The key line is longer than 64 bytes; it is dropped up to its newline": the 65th byte tells that it is, and none is held after it
+-- a line with its next byte. "1. The key line is longer than 64 bytes; it is dropped up to its newline": the 65th byte shows it, and no later one is held
 abbrev pub held : List ℕ → ℕ → List ℕ
 held line b = take 65 (line ++ (b ∷ []))
 
--- a byte of the input, after the bytes held of its line: what is printed, what is then held, and the journal. A line is answered as soon as its newline comes
+-- a byte of the input, after the bytes held of its line: what is printed, what is held afterwards, and the journal. A line is answered when its newline arrives
 abbrev pub shownAt : ℕ → List ℕ → List ℕ → List ℕ
 shownAt b line journal = cond (eqb b (byte "\n")) (replyTo line journal ++ (byte "\n" ∷ [])) []
 
@@ -38,7 +38,7 @@ abbrev pub output : List ℕ → List ℕ → List ℕ → List ℕ
 output journal line [] = shownAtEnd line journal
 output journal line (b ∷ bs) = shownAt b line journal ++ output (journalAt b line journal) (heldAt b line) bs
 
--- the line that is held after some bytes of the input, and the journal after them
+-- the line held after some bytes of the input, and the journal after them
 abbrev pub heldAfter : List ℕ → List ℕ → List ℕ
 heldAfter [] line = line
 heldAfter (b ∷ bs) line = heldAfter bs (heldAt b line)
@@ -47,7 +47,7 @@ abbrev pub journalPast : List ℕ → List ℕ → List ℕ → List ℕ
 journalPast [] line journal = journal
 journalPast (b ∷ bs) line journal = journalPast bs (heldAt b line) (journalAt b line journal)
 
--- of every input, that is the whole run, and the journal is that after its lines
+-- for every input, this output is the whole run, and the journal is the one after its lines
 pub record Console : Type 0 where
   pub whole : (input : List ℕ) → output (zeros 544) [] input ≡ run input
   pub stored : (input : List ℕ) → journalAtEnd (heldAfter input []) (journalPast input [] (zeros 544)) ≡ journalAfterLines (zeros 544) (linesOf input)

@@ -21,7 +21,7 @@ spaceAt line position = eqb (getD line position 0) (byte " ")
 unfoldable pub spacedNumber : List ℕ → ℕ → Number
 spacedNumber line position = cond (spaceAt line position) (numberAt line (position + 1)) Nothing
 
--- the same in document 01's numbers: without the space, "2. The key line is not of the form above."
+-- the same as document 01's refusal number and figures: without the space, "2. The key line is not of the form above."
 unfoldable pub spacedOutcome : List ℕ → ℕ → NumberOutcome
 spacedOutcome line position = cond (spaceAt line position) (numberOutcome line (position + 1)) (record { refusal = 2; value = 0; next = 0 })
 
@@ -34,7 +34,7 @@ abbrev pub andThen : Number → (ℕ → Option (List ℕ)) → Option (List ℕ
 andThen (Value v next) more = inFront v (more next)
 andThen Nothing more = none
 
--- the numbers from a position to the line's end, fewer than `most`: none where the line is not of the form
+-- the numbers from a position to the end of the line, fewer than `most`; `none` if the line is not of the form
 unfoldable pub numbersFrom : ℕ → List ℕ → ℕ → Option (List ℕ)
 numbersFrom zero line position = none
 numbersFrom (suc most) line position = cond (eqb position (length line)) (some []) (andThen (spacedNumber line position) (numbersFrom most line))
@@ -61,19 +61,19 @@ engineFrom vs = EnterEngine (getD vs 0 0) (record { hcnox = take (length vs / 2)
 abbrev pub amendmentFrom : List ℕ → Change
 amendmentFrom vs = Amend (record { hcnox = getD vs 0 0; co = getD vs 1 0 })
 
--- a call, if the line has so many numbers
+-- the call, if the line has exactly `count` numbers
 abbrev pub ofCount : ℕ → List ℕ → Call → Option Call
 ofCount count vs call = cond (eqb (length vs) count) (some call) none
 
 abbrev pub changeOf : ℕ → List ℕ → Change → Option Call
 changeOf count vs change = ofCount count vs (Enter (EnterChange change))
 
--- "An odd count of readings is refused by 2, an even count that is none or more than six by 11." The 11 is the call's own refusal. The 2 is given here: with the
--- engine's number in front, an odd count of readings is an even count of numbers, and so is no number at all
+-- "An odd count of readings is refused by 2, an even count that is none or more than six by 11." The 11 is the call's own refusal. The 2 is given here: with
+-- the engine's number in front, an odd count of readings makes an even count of numbers; no number at all is an even count too
 abbrev pub ofPairs : List ℕ → Call → Option Call
 ofPairs vs call = cond (eqb (length vs % 2) 1) (some call) none
 
--- the call of a letter and its numbers. "P next period, X declaration, L strip: no numbers". L lends an output for forty engines
+-- the call of a letter and its numbers. "P next period, X declaration, L strip: no numbers". L lends an output with room for forty engines
 unfoldable pub callOf : ℕ → List ℕ → Option Call
 callOf letter vs =
     cond (eqb letter (byte "S")) (ofCount 8 vs (SetUp (setupFrom vs)))
@@ -83,7 +83,7 @@ callOf letter vs =
     (cond (eqb letter (byte "X")) (changeOf 0 vs Declare)
     (cond (eqb letter (byte "L")) (ofCount 0 vs (Ask (Write Marks 80))) none)))))
 
--- what a line asks for: a call, or to be refused by 1 or 2
+-- what a line asks for: a call, or a refusal by 1 or 2
 pub data Command : Type 0 where
   Make : Call → Command
   Refuse : ℕ → Command

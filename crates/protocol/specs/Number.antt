@@ -10,11 +10,11 @@ use Rattle.ascii.specs.Decimal.{digits, spelt}
 use Rattle.protocol.specs.declared.Number.{Number}
 use Rattle.protocol.specs.declared.Number.the-variants.{Value, Nothing}
 
--- "A number has 1 to 8 digits and no leading zero but in 0": the `count` digits at a position are one
+-- "A number has 1 to 8 digits and no leading zero but in 0": whether the `count` digits at a position are a number
 unfoldable pub isNumber : List ℕ → ℕ → ℕ → Bool
 isNumber line position count = within 1 8 count && (eqb count 1 || not (eqb (getD line position 0) (byte "0")))
 
--- "the line it was given and the position of the next byte": the number that stands there, with the position after it
+-- "the line it was given and the position of the next byte": the number there, with the position after it
 unfoldable pub numberAt : List ℕ → ℕ → Number
 numberAt line position =
     let count = digits (drop position line) in
@@ -33,7 +33,7 @@ abbrev pub numberOutcomeOf : Number → NumberOutcome
 numberOutcomeOf (Value value next) = record { refusal = 0; value = value; next = next }
 numberOutcomeOf Nothing = record { refusal = 2; value = 0; next = 0 }
 
--- the same of a position of a line
+-- the same for a position of a line
 unfoldable pub numberOutcome : List ℕ → ℕ → NumberOutcome
 numberOutcome line position =
     let count = digits (drop position line) in

@@ -1,4 +1,4 @@
--- Lines on a journal that is all zero at the start, beside the reference model (document 01, "The plain year of a list of calls") fed by the lines' calls.
+-- Lines on a journal that starts all zero, compared with the reference model (document 01, "The plain year of a list of calls") fed with the lines' calls.
 use mathlib.Core.Path.{_≡_}
 use mathlib.Core.Bool.{cond}
 use mathlib.Core.List.{List, [], _∷_}
@@ -18,7 +18,7 @@ use Rattle.protocol.specs.KeyLine.{Command, Make, Refuse, commandOf}
 use Rattle.protocol.specs.Reply.{refusalReply, outReply, statusReply}
 use Rattle.protocol.specs.Run.{replies, journalAfterLines}
 
--- the call that a line makes, in front of others; a line refused by 1 or 2 makes none
+-- the call that a line makes, in front of earlier ones; a line refused by 1 or 2 makes none
 abbrev pub andCall : Command → List Call → List Call
 andCall (Make call) calls = call ∷ calls
 andCall (Refuse number) calls = calls
@@ -28,7 +28,7 @@ abbrev pub callsAfter : List Call → List (List ℕ) → List Call
 callsAfter calls [] = calls
 callsAfter calls (line ∷ lines) = callsAfter (andCall (commandOf line) calls) lines
 
--- what the model replies to an accepted call that leaves it in this state: its marks to a marks call, its status to any other
+-- the model's reply to an accepted call that leaves it in this state: its marks to a marks call, its status to any other
 abbrev pub acceptedQuery : Query → Model → List ℕ
 acceptedQuery ReadStatus model = statusReply (statusOf model)
 acceptedQuery (Write form size) model = outReply form (outBytes form model)
@@ -44,7 +44,7 @@ modelReply (Make call) model =
     cond (eqb (refusal 544 call model) 0) (acceptedReply call (stepModel call model)) (refusalReply (refusal 544 call model))
 modelReply (Refuse number) model = refusalReply number
 
--- the model's replies to lines, after the calls of earlier lines, of which the newest comes first
+-- the model's replies to lines, after the calls of earlier lines, listed with the newest first
 abbrev pub modelReplies : List Call → List (List ℕ) → List (List ℕ)
 modelReplies calls [] = []
 modelReplies calls (line ∷ lines) = modelReply (commandOf line) (modelOf calls) ∷ modelReplies (andCall (commandOf line) calls) lines
@@ -57,7 +57,7 @@ module _ (lines : List (List ℕ)) where
   pub record Session : Type 0 where
     -- the replies are those of the model
     pub replied : replies (zeros 544) lines ≡ modelReplies [] lines
-    -- the journal is that of the lines' calls, and it is read as the model
+    -- the journal is the one that the lines' calls leave, and it is read as the model
     pub sameCalls : journalAfterLines (zeros 544) lines ≡ journalOf calls
     pub readsBack : Holds (journalAfterLines (zeros 544) lines) (modelOf calls)
     -- so every byte of it is the model's: zeros as long as no setup was accepted, and then its stored form

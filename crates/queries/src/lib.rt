@@ -1,6 +1,7 @@
-// The public calls that only read the journal: status, and the marks written into a lent output. None asks anything of its arguments or of what is lent to it. Each
-// promises its whole answer (its value, which pins the case, and what it tells in the specification's numbers, `outcome`) and every byte of each buffer that it may
-// write, refused or not; `marks`, whose result keeps its output lent, promises the bytes of that result, and by `LenderFinds` every byte behind it.
+// The public calls that only read the journal: status, and the marks written into a lent output. None has a precondition, on its arguments or on lent buffers.
+// Each contract gives the whole answer (its value, which fixes the enum case, and its refusal number and figures as in the specification, `outcome`) and every
+// byte of each buffer that the call may write, refused or not. The result of `marks` keeps its output lent, so its contract gives the bytes of that result, and
+// by `LenderFinds` every byte behind it.
 ghost use mathlib.Core.Path.{_≡_};
 ghost use lib.ListN.{length, drop};
 ghost use denote.Ref.{ptr};
@@ -47,7 +48,7 @@ pub fn write_marks(journal: &[u8], out: &mut [u8]) -> OutputAnswer
     }
 }
 
-// The same, with the refusal told through a lent byte: where the written part ends.
+// The same, with the refusal returned through a lent byte; the result is where the written part ends.
 fn write_front(journal: &[u8], out: &mut [u8], refusal: &mut u8) -> usize
     ensures { λ r. ⌜ record { refusal = now (refusal .exit); length = r } ≡ outputAnswer Marks (now (journal .entry)) (now (out .entry)) ⌝ }
     ensures { λ _. ⌜ now (out .exit) ≡ outAfter Marks (now (journal .entry)) (now (out .entry)) ⌝ }
@@ -57,9 +58,9 @@ fn write_front(journal: &[u8], out: &mut [u8], refusal: &mut u8) -> usize
     written.length
 }
 
-// Marks, with just the written part of the output handed back, an empty one where the call is refused. It promises the part's bytes, where the part starts, that
-// whoever lent the output finds behind the part exactly the definition's bytes when the borrow ends, and the refusal. (`∗ ⊤ₛ` lets the borrow checker cover a
-// caller, which is handed the other three promises.)
+// Marks, handing back just the written part of the output, an empty part if the call is refused. The contract gives the part's bytes, where the part starts,
+// that the lender of the output finds exactly the definition's bytes behind the part when the borrow ends, and the refusal. (`∗ ⊤ₛ` lets the borrow checker
+// cover a caller, which gets the other three promises.)
 pub fn marks<'a>(journal: &[u8], out: &'a mut [u8], refusal: &mut u8) -> &'a mut [u8]
     ensures { λ r. ⌜ now r ≡ outPart Marks (now (journal .entry)) (now (out .entry)) ⌝ }
     ensures { λ r. ⌜ ptr r ≡ ptr (out .entry) ⌝ }

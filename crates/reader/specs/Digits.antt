@@ -1,4 +1,4 @@
--- The digits at a position of a line as the code reads them: no more than nine, since a ninth tells that they are no number (document 01, "Key line": "A number
+-- The digits at a position of a line as the code reads them: at most nine, since a ninth shows that they are not a number (document 01, "Key line": "A number
 -- has 1 to 8 digits").
 use mathlib.Core.Path.{_≡_}
 use mathlib.Core.Logic.{_⊎_}

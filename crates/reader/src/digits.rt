@@ -19,7 +19,7 @@ fn is_digit(b: u8) -> bool
     b'0' <= b && b <= b'9'
 }
 
-// The digits that stand at `at`, nine of them at the most: the position after them, and the number that they spell. A ninth tells that there are too many.
+// The digits at `at`, at most nine: the position after them, and the number that they spell. A ninth shows that there are too many.
 fn read_digits(line: &[u8], at: usize) -> Digits
     ensures { λ r. ⌜ DigitsRead (now (line .entry)) at (r .end) (r .value) ⌝ }
 {
@@ -39,7 +39,7 @@ fn read_digits(line: &[u8], at: usize) -> Digits
     Digits { end: i, value: v }
 }
 
-// Whether the digits from `at` up to `end` are a number: 1 to 8 of them, with no leading zero but in 0.
+// Whether the digits from `at` up to `end` are a number: 1 to 8 of them, with no leading zero except in 0 itself.
 fn is_number(line: &[u8], at: usize, end: usize) -> bool
     requires { ⌜ (at ≤ end) × (end ≤ at + digits (drop at (now line))) ⌝ }
     ensures { λ r. ⌜ r ≡ isNumber (now (line .entry)) at (end - at) ⌝ }

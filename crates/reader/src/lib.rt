@@ -26,7 +26,7 @@ pub fn next_number<'a>(r: Reader<'a>) -> Number
     number_at(r.line, r.at)
 }
 
-// The number at a position of a line, through a reader: for callers that hold none.
+// The number at a position of a line, through a reader: for callers that do not hold one.
 pub fn read_number(line: &[u8], at: usize) -> Number
     ensures { λ r. ⌜ r ≡ numberAt (now (line .entry)) at ⌝ }
     ensures { λ r. ⌜ numberOutcomeOf r ≡ numberOutcome (now (line .entry)) at ⌝ }

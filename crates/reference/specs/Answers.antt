@@ -26,7 +26,7 @@ refusalsOn call journal = refusals (length journal) call (readJournal journal)
 abbrev pub refusalOn : Call → List ℕ → ℕ
 refusalOn call journal = refusal (length journal) call (readJournal journal)
 
--- a value where the call is accepted, and one where it is refused
+-- the first value if the call is accepted, the second if it is refused
 module _ {A : Type 0} where
   abbrev pub ifAccepted : Call → List ℕ → A → A → A
   ifAccepted call journal accepted refused = cond (eqb (refusalOn call journal) 0) accepted refused
@@ -36,13 +36,13 @@ abbrev pub withEntry : Entry → Model → List ℕ → List ℕ
 withEntry entry NoSetup journal = journal
 withEntry entry (Year s es) journal = append journal (eventOf (replay s es) entry)
 
--- "Setup takes a buffer of any content and writes all of it." A query writes nothing in it
+-- "Setup takes a buffer of any content and writes all of it." A query leaves the journal unchanged
 abbrev pub written : Call → List ℕ → List ℕ
 written (SetUp s) journal = encode s []
 written (Enter entry) journal = withEntry entry (readJournal journal) journal
 written (Ask query) journal = journal
 
--- the journal after a call: what it writes, or where it is refused what it was
+-- the journal after a call: what the call writes, or unchanged if it is refused
 unfoldable pub journalAfter : Call → List ℕ → List ℕ
 journalAfter call journal = ifAccepted call journal (written call journal) journal
 
@@ -55,8 +55,8 @@ abbrev pub statusOf : Model → Status
 statusOf NoSetup = noStatus
 statusOf (Year s es) = status 1024 (replay s es)
 
--- "An accepted setup or entry returns the status of the book that it leaves", and status that of the book that it reads. "A refusal returns its number".
--- (A call that writes an output gives back a part and its refusal, and no answer.)
+-- "An accepted setup or entry returns the status of the book that it leaves", and the status call that of the book it reads. "A refusal returns its number".
+-- (A call that writes an output returns a part and its refusal instead of an answer.)
 unfoldable pub answer : Call → List ℕ → Answer
 answer call journal = ifAccepted call journal (Accepted (statusOf (readJournal (journalAfter call journal)))) (Refused (refusalOn call journal))
 
@@ -69,7 +69,7 @@ abbrev pub outcomeOf : Answer → Outcome
 outcomeOf (Accepted s) = record { refusal = 0; status = s }
 outcomeOf (Refused number) = record { refusal = number; status = noStatus }
 
--- the same of a call: "A refusal returns its number, every other figure of the answer zero, marks '-', N absent"
+-- the same for a call: "A refusal returns its number, every other figure of the answer zero, marks '-', N absent"
 unfoldable pub outcome : Call → List ℕ → Outcome
 outcome call journal =
     record { refusal = refusalOn call journal; status = ifAccepted call journal (statusOf (readJournal (journalAfter call journal))) noStatus }
@@ -86,11 +86,11 @@ outBytes form (Year s es) = formBytes form (replay s es)
 unfoldable pub outAfter : Form → List ℕ → List ℕ → List ℕ
 outAfter form journal out = ifAccepted (Ask (Write form (length out))) journal (put out 0 (outBytes form (readJournal journal))) out
 
--- "and hands back just that written part of the buffer", or "an empty part" where it is refused
+-- "and hands back just that written part of the buffer", or "an empty part" if it is refused
 unfoldable pub outPart : Form → List ℕ → List ℕ → List ℕ
 outPart form journal out = ifAccepted (Ask (Write form (length out))) journal (outBytes form (readJournal journal)) []
 
--- what it tells beside them: its refusal, and how many bytes it wrote, none where it is refused
+-- what it returns besides the bytes: its refusal, and how many bytes it wrote, 0 if it is refused
 abbrev pub outputAnswer : Form → List ℕ → List ℕ → OutputAnswer
 outputAnswer form journal out =
     record { refusal = refusalOn (Ask (Write form (length out))) journal; length = length (outPart form journal out) }

@@ -1,4 +1,4 @@
--- The calls of document 01 with their arguments, of any value; and the event that an entry adds to a year.
+-- The calls of document 01 with their arguments, which may have any value; and the event that an entry adds to a year.
 use mathlib.Core.Bool.{Bool, true, false}
 use mathlib.Core.List.{List}
 use Prim.Native.Nat.{ℕ}
@@ -22,13 +22,13 @@ abbrev pub readingsOf : Pollutant → Readings → List ℕ
 readingsOf Hcnox readings = readings .hcnox
 readingsOf Co readings = readings .co
 
--- the four entries: an engine with its number and readings; or a change, which comes without readings: an amendment with the new standards, the next period,
--- a declaration
+-- the four entries: an engine with its number and readings; or a change, which has no readings: an amendment with the new standards, the next period, a
+-- declaration
 pub data Entry : Type 0 where
   EnterEngine : ℕ → Readings → Entry
   EnterChange : Change → Entry
 
--- an engine's entry by its number and the readings of HC+NOx and of CO
+-- an engine's entry from its number, its HC+NOx readings and its CO readings
 abbrev pub engineEntry : ℕ → List ℕ → List ℕ → Entry
 engineEntry number hcnox co = EnterEngine number (record { hcnox = hcnox; co = co })
 
@@ -41,13 +41,13 @@ pub data Query : Type 0 where
   ReadStatus : Query
   Write : Form → ℕ → Query
 
--- the seven calls: setup, an entry, a query
+-- the seven calls: setup, four entries, two queries
 pub data Call : Type 0 where
   SetUp : Setup → Call
   Enter : Entry → Call
   Ask : Query → Call
 
--- the results worked from an engine's readings
+-- the results computed from an engine's readings
 abbrev pub resultsOf : Setup → Readings → Pair
 resultsOf s readings =
     record { hcnox = resultOf (factorOf Hcnox s) (readings .hcnox); co = resultOf (factorOf Co s) (readings .co) }
@@ -73,7 +73,7 @@ addsEvent (SetUp s) = false
 addsEvent (Enter entry) = true
 addsEvent (Ask query) = false
 
--- A test of a call's arguments, by the kind of call; of any other call it does not hold.
+-- A test of the arguments of one kind of call; false for any other call.
 abbrev pub ofSetup : (Setup → Bool) → Call → Bool
 ofSetup test (SetUp s) = test s
 ofSetup test (Enter entry) = false
@@ -89,7 +89,7 @@ ofQuery test (SetUp s) = false
 ofQuery test (Enter entry) = false
 ofQuery test (Ask query) = test query
 
--- and by the kind of entry or of query
+-- the same for one kind of entry or query
 abbrev pub ofEngine : (ℕ → Readings → Bool) → Entry → Bool
 ofEngine test (EnterEngine number readings) = test number readings
 ofEngine test (EnterChange change) = false

@@ -20,18 +20,18 @@ pub record Demand1 : Type 0 where
   -- "The book and the strip .. are, after a refused call, byte for byte what they were"
   pub refusedJournal : (call : Call) (journal : List ℕ) → refusalOn call journal ≢ 0 → journalAfter call journal ≡ journal
   pub refusedOut : (form : Form) (journal out : List ℕ) → refusalOn (Ask (Write form (length out))) journal ≢ 0 → outAfter form journal out ≡ out
-  -- "after an accepted call only the bytes that document 01 names for it have changed". A setup's are all 544
+  -- "after an accepted call only the bytes that document 01 names for it have changed". For a setup these are all 544
   pub setupWritten : (s : Setup) (journal : List ℕ) → refusalOn (SetUp s) journal ≡ 0 → journalAfter (SetUp s) journal ≡ encode s []
   pub setupSize : (s : Setup) (journal : List ℕ) → refusalOn (SetUp s) journal ≡ 0 → length (encode s []) ≡ 544
-  -- an entry's are its slot and byte 24: at every other index the byte is what it was, and there are as many
+  -- for an entry, its slot and byte 24: the byte at every other index is unchanged, and so is the length
   pub entryWritten : (entry : Entry) (journal : List ℕ) (s : Setup) (es : List Event) → readJournal journal ≡ Year s es
       → refusalOn (Enter entry) journal ≡ 0 → journalAfter (Enter entry) journal ≡ append journal (eventOf (replay s es) entry)
   pub entryKept : (entry : Entry) (journal : List ℕ) (i : ℕ) → i ≢ 24 → Outside (slotPlace (getD journal 24 0)) 8 i
       → getD (journalAfter (Enter entry) journal) i 0 ≡ getD journal i 0
   pub entrySize : (entry : Entry) (journal : List ℕ) → length (journalAfter (Enter entry) journal) ≡ length journal
-  -- status and marks have none in the journal
+  -- for status and marks, none in the journal
   pub queryKept : (query : Query) (journal : List ℕ) → journalAfter (Ask query) journal ≡ journal
-  -- an output's are those of its form, at its front; marks have the first 2n. At every other index the byte is what it was, and there are as many
+  -- for an output, the bytes of its form, at the front; for marks, the first 2n. The byte at every other index is unchanged, and so is the length
   pub outKept : (form : Form) (journal out : List ℕ) (i : ℕ) → length (outBytes form (readJournal journal)) ≤ i
       → getD (outAfter form journal out) i 0 ≡ getD out i 0
   pub outSize : (form : Form) (journal out : List ℕ) → length (outAfter form journal out) ≡ length out

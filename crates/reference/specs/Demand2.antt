@@ -50,20 +50,20 @@ abbrev pub unreadable : Entry → Bool
 unreadable = ofEngine (λ number readings. not (countsFit readings) || not (readingsFit readings))
 
 pub record Demand2 : Type 0 where
-  -- what is stored: a setup as it is given, and an entry's event, an engine's with the results worked from its readings (`eventOf`)
+  -- what is stored: a setup as given, and an entry's event, which for an engine has the results worked from its readings (`eventOf`)
   pub setUp : (s : Setup) (journal : List ℕ) → refusalOn (SetUp s) journal ≡ 0 → readJournal (journalAfter (SetUp s) journal) ≡ Year s []
   pub entered : (entry : Entry) (journal : List ℕ) (s : Setup) (es : List Event) → readJournal journal ≡ Year s es → refusalOn (Enter entry) journal ≡ 0
       → readJournal (journalAfter (Enter entry) journal) ≡ Year s (eventOf (replay s es) entry ∷ es)
-  -- and the other way: an entry whose event the year admits, its readings 1 to 3 for each pollutant and in range, is accepted. So the events of an accepted
-  -- journal "could have been entered in that order" (document 01, "The book")
+  -- and conversely: an entry is accepted if the year admits its event, and its readings are 1 to 3 for each pollutant and in range. So the events of an
+  -- accepted journal "could have been entered in that order" (document 01, "The book")
   pub couldEnter : (entry : Entry) (journal : List ℕ) (s : Setup) (es : List Event) → readJournal journal ≡ Year s es
       → admissible (replay s es) (eventOf (replay s es) entry) ≡ true → unreadable entry ≡ false → refusalOn (Enter entry) journal ≡ 0
-  -- what is answered: each figure of the year that the journal then holds (an accepted call leaves none without), which is what status answers on that journal
+  -- what is answered: each figure of the year that the journal then holds (after an accepted call it holds one), which is what status answers on that journal
   pub held : (call : Call) (journal : List ℕ) → refusalOn call journal ≡ 0 → noSetup (readJournal (journalAfter call journal)) ≡ false
   pub shown : (call : Call) (journal : List ℕ) (s : Setup) (es : List Event) → refusalOn call journal ≡ 0 → readJournal (journalAfter call journal) ≡ Year s es
       → Shows (outcomeOf (answer call journal) .status) (replay s es)
   pub answered : (call : Call) (journal : List ℕ) → refusalOn call journal ≡ 0 → answer call journal ≡ answer (Ask ReadStatus) (journalAfter call journal)
-  -- the verdict (document 01, "Verdict"): "The first that applies", in this order; where none does, 1
+  -- the verdict (document 01, "Verdict"): "The first that applies", in this order; 1 if none does
   pub verdictOrder : (k : ℕ) (p : Progress) → map (λ (row : Row). row .1) (verdictRows k p) ≡ 7 ∷ 6 ∷ 5 ∷ 0 ∷ 2 ∷ 3 ∷ 4 ∷ []
   pub verdictFirst : (k : ℕ) (p : Progress) (v : ℕ) → FirstApplies (verdictRows k p) v → verdict k p ≡ v
   pub verdictElse : (k : ℕ) (p : Progress) → NoneApplies (verdictRows k p) → verdict k p ≡ 1

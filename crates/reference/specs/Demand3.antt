@@ -1,4 +1,4 @@
--- Demand 3: finer work beside what the calls give, after every list of calls on one journal that is all zero at the start, and on every accepted journal.
+-- Demand 3: finer work compared with what the calls give, after every list of calls on one journal that starts all zero, and on every accepted journal.
 use mathlib.Core.Path.{_≡_}
 use mathlib.Core.Bool.{true, false}
 use mathlib.Core.List.{List, map, reverse}
@@ -43,7 +43,7 @@ pub record Calculated (journal : List ℕ) (s : Setup) (es : List Event) : Type 
   pub limit : (q : Pollutant) → 2 ≤ length (replay s es .tested)
       → figuresOf q (statusOn journal) .limit ≡ limitAt 1 (replay s es) (length (replay s es .tested)) q
 
--- a journal of this setup and these events: what the calculator gives on it, and work at m beside that
+-- a journal of this setup and these events: what the calculator gives on it, and work at m compared with that
 pub record FinerJournal (m : ℕ) (journal : List ℕ) (s : Setup) (es : List Event) : Type 0 where
   pub calculated : Calculated journal s es
   -- the marks at m = 1 and at m, the verdicts, the brackets of every engine and their widths
@@ -62,15 +62,15 @@ module _ (calls : List Call) (m : ℕ) where
   pub record AfterCalls : Type 0 where
     -- the journal that the calls leave is read as the reference model, which is fed their arguments alone
     pub readsBack : Holds (journalOf newestFirst) (modelOf newestFirst)
-    -- so a further call is accepted or refused on the journal as it is by the model
+    -- so a further call is accepted or refused on the journal exactly as in the model
     pub refusals : (call : Call) → refusalOn call (journalOf newestFirst) ≡ refusal 544 call (modelOf newestFirst)
-    -- "every list of these calls with an accepted setup in it": the model then has a setup, whose finer work is this
+    -- "every list of these calls with an accepted setup in it": the model then has a setup, for which `FinerJournal` holds
     pub withSetup : setupAccepted newestFirst ≡ true
         → (s : Setup) × (es : List Event) × (modelOf newestFirst ≡ Year s es) × FinerJournal m (journalOf newestFirst) s es
     pub withoutSetup : setupAccepted newestFirst ≡ false → BeforeSetup (journalOf newestFirst)
 
 pub record Demand3 : Type 0 where
-  -- the strip's bytes tell marks apart, so what is said of marks is said of the strip
+  -- different marks have different bytes, so every statement about marks holds for the strip
   pub apart : (a b : Mark) → markByte a ≡ markByte b → a ≡ b
   pub lists : (calls : List Call) (m : ℕ) → 1 ≤ m → AfterCalls calls m
   -- "this holds for every other accepted book too": "its strip is compared with the marks at m of the setup and list that it reads back as"

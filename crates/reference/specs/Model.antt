@@ -25,7 +25,7 @@ accepted (Ask query) model = model
 unfoldable pub stepModel : Call → Model → Model
 stepModel call model = cond (eqb (refusal 544 call model) 0) (accepted call model) model
 
--- the state after a list of calls, of which the newest comes first
+-- the state after a list of calls, listed with the newest first
 abbrev pub modelOf : List Call → Model
 modelOf [] = NoSetup
 modelOf (call ∷ calls) = stepModel call (modelOf calls)

@@ -1,4 +1,4 @@
--- Document 01, "Refused calls, in checking order", 3 to 16, for every call. (1 and 2 are the key line's.) One table: what a call asks, the length of the
+-- Document 01, "Refused calls, in checking order", 3 to 16, for every call. (1 and 2 belong to the key line.) One table, over the call, the length of the
 -- journal's buffer, and the year that it holds.
 use mathlib.Core.Bool.{Bool, true, not, _&&_, _||_}
 use mathlib.Core.List.{List, [], _∷_}
@@ -25,7 +25,7 @@ allInRange (x ∷ xs) = readingInRange x && allInRange xs
 abbrev pub readingsFit : Readings → Bool
 readingsFit readings = both (λ q. allInRange (readingsOf q readings))
 
--- the table, for a journal's buffer of this size that holds this year
+-- the table, for a journal buffer of this size that holds this year
 unfoldable pub refusals : ℕ → Call → Model → List Row
 refusals size call model =
     -- The book buffer is not 544 bytes.
@@ -58,6 +58,6 @@ refusals size call model =
     ∷ (ofQuery (ofMarks (λ size. ofYear (λ p. ltb size (2 * length (p .tested))) model)) call, 16)
     ∷ []
 
--- demand 1: "the first that applies, in 01's order, is the one returned"; 0 where none does
+-- demand 1: "the first that applies, in 01's order, is the one returned"; 0 if none does
 unfoldable pub refusal : ℕ → Call → Model → ℕ
 refusal size call model = first (refusals size call model) 0

@@ -8,14 +8,14 @@ pub enum Answer {
     Refused(u8),
 }
 
-// A change: an entry that comes without readings.
+// A change: an entry without readings.
 pub enum Change {
     Amend(Pair),
     BeginPeriod,
     Declare,
 }
 
-// What a call that writes an output tells beside the bytes: its refusal, 0 for none, and how many bytes it wrote.
+// What a call that writes an output returns besides the bytes: its refusal, 0 for none, and how many bytes it wrote.
 pub struct OutputAnswer {
     pub refusal: u8,
     pub length: usize,

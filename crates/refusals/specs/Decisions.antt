@@ -1,4 +1,4 @@
--- What an entry comes to, by the table of refusals: the event that it adds, or the number of its refusal.
+-- The decision on an entry, by the table of refusals: the event that it adds, or the number of its refusal.
 use mathlib.Core.Bool.{cond}
 use mathlib.Core.List.{List}
 use Prim.Native.Nat.{ℕ}
@@ -11,7 +11,7 @@ use Rattle.slots.specs.Scanned.{replayed}
 use Rattle.refusals.specs.declared.Decision.{Decision}
 use Rattle.refusals.specs.declared.Decision.the-variants.{Add, Refuse}
 
--- an event is added where there is no refusal
+-- the event is added if there is no refusal
 abbrev pub decision : ℕ → Event → Decision
 decision refusal e = cond (eqb refusal 0) (Add e) (Refuse refusal)
 

@@ -1,4 +1,4 @@
--- The table of refusals in parts, as the code asks them. That the parts are those of `refusals`, in its order, is proved in proofs/Parts.
+-- The table of refusals in parts, as the code tests them. proofs/Parts proves that these are the rows of `refusals`, in its order.
 use mathlib.Core.Bool.{Bool, not}
 use mathlib.Core.List.{List, [], _∷_}
 use Prim.Native.Nat.{ℕ}
@@ -9,11 +9,11 @@ use Rattle.year.specs.Admissible.{closed, eventsFull}
 use Rattle.year.specs.Model.{noSetup, ofYear}
 use Rattle.journal.specs.Read.{readJournal}
 
--- the rows of status, with which those of the marks call begin
+-- the rows for status, which are also the first rows for the marks call
 abbrev pub statusRows : List ℕ → List Row
 statusRows journal = (not (eqb (length journal) 544), 3) ∷ (noSetup (readJournal journal), 7) ∷ []
 
--- the rows that every entry may meet, 3, 7, 8 and 9, and in its place 5, where an amendment's standards are unfit
+-- the rows that can apply to every entry, 3, 7, 8 and 9, and in its place in the order 5, which applies if an amendment's standards are unfit
 abbrev pub entryRows : Bool → List ℕ → List Row
 entryRows unfit journal =
     (not (eqb (length journal) 544), 3)

@@ -1,5 +1,5 @@
-// Which calls are refused, by which number: the tests of the one table of refusals (`refusals` of the crate reference), in its order; and what an entry comes to,
-// of which the crates change_decision and engine_decision decide. Nothing is written.
+// Which calls are refused, and by which number: the tests of the one table of refusals (`refusals` of the crate reference), in its order; and the decision on
+// an entry, which the crates change_decision and engine_decision make. Nothing is written.
 ghost use mathlib.Core.Path.{_≡_};
 ghost use Rattle.conditions.specs.Rows.{first};
 ghost use Rattle.journal.specs.Read.{readJournal};
@@ -19,13 +19,13 @@ use year::Event;
 use year::MOST_EVENTS;
 use year::Setup;
 
-// What an entry comes to: the event that it adds, or the number of its refusal.
+// The decision on an entry: the event that it adds, or the number of its refusal.
 pub enum Decision {
     Add(Event),
     Refuse(u8),
 }
 
-// An event is added where no row applies.
+// Adds the event if no row applies.
 pub fn decide(refusal: u8, e: Event) -> Decision
     ensures { λ r. ⌜ r ≡ decision refusal e ⌝ }
 {
@@ -35,7 +35,7 @@ pub fn decide(refusal: u8, e: Event) -> Decision
     Decision::Refuse(refusal)
 }
 
-// 3, 4, 5 and 6. Setup asks nothing of what the buffer holds.
+// Refusals 3, 4, 5 and 6. Setup does not test what the buffer holds.
 pub fn setup_refusal(journal: &[u8], s: Setup) -> u8
     ensures { λ r. ⌜ r ≡ refusalOn (SetUp s) (now (journal .entry)) ⌝ }
 {
@@ -46,7 +46,7 @@ pub fn setup_refusal(journal: &[u8], s: Setup) -> u8
     row(journal.len() != JOURNAL_SIZE, 3, production)
 }
 
-// 3 and 7.
+// Refusals 3 and 7.
 pub fn status_refusal(journal: &[u8], scanned: Scanned) -> u8
     requires { ⌜ ScannedAs scanned (readJournal (now journal)) ⌝ }
     ensures { λ r. ⌜ r ≡ refusalOn (Ask ReadStatus) (now (journal .entry)) ⌝ }
@@ -56,7 +56,7 @@ pub fn status_refusal(journal: &[u8], scanned: Scanned) -> u8
     row(size, 3, row(unread, 7, 0))
 }
 
-// 3, 7 and 16, for an output of this size.
+// Refusals 3, 7 and 16, for an output of this size.
 pub fn marks_refusal(journal: &[u8], scanned: Scanned, size: usize) -> u8
     requires { ⌜ ScannedAs scanned (readJournal (now journal)) ⌝ }
     ensures { λ r. ⌜ r ≡ refusalOn (Ask (Write Marks size)) (now (journal .entry)) ⌝ }
@@ -69,7 +69,7 @@ pub fn marks_refusal(journal: &[u8], scanned: Scanned, size: usize) -> u8
     row(size < 2 * n, 16, 0)
 }
 
-// 3, 7, 8 and 9, which every entry may meet, and in its place 5, where an amendment's standards are unfit.
+// Refusals 3, 7, 8 and 9, which can apply to every entry, and in its place in the order 5, which applies if an amendment's standards are unfit.
 pub fn entry_refusal(journal: &[u8], unfit: bool, scanned: Scanned) -> u8
     requires { ⌜ ScannedAs scanned (readJournal (now journal)) ⌝ }
     ensures { λ r. ⌜ r ≡ first (entryRows unfit (now (journal .entry))) 0 ⌝ }

@@ -1,4 +1,4 @@
-// The replies: "NO" and a refusal's number, "OK" and what a technician reads of a status, "OK" and the marks.
+// The replies: "NO" and a refusal's number, "OK" and what a technician needs of a status, "OK" and the marks.
 ghost use mathlib.Core.Path.{_≡_};
 ghost use Prim.Native.Nat.{_+_, _≤_};
 ghost use lib.ListN.{length};
@@ -21,7 +21,7 @@ pub fn write_refusal(number: u8, out: &mut [u8]) -> usize
     put_number(number as u64, out, at)
 }
 
-// "OK", n, verdict, the two newest marks joined, N in tenths for each pollutant. (An enum that is a field is copied before it is passed on: only a local is covered.)
+// "OK", n, verdict, the two newest marks joined, N in tenths for each pollutant. (An enum field is copied to a local first: only a local is covered.)
 pub fn write_status(s: Status, out: &mut [u8]) -> usize
     requires { ⌜ 96 ≤ length (now out) ⌝ }
     ensures { λ r. ⌜ Replied (now (out .entry)) (statusReply s) (now (out .exit)) r ⌝ }
@@ -40,7 +40,7 @@ pub fn write_status(s: Status, out: &mut [u8]) -> usize
     put_size(co_size, out, size)
 }
 
-// The reply to every call but that for the marks.
+// The reply to every call except the marks call.
 pub fn write_answer(answer: Answer, out: &mut [u8]) -> usize
     requires { ⌜ 96 ≤ length (now out) ⌝ }
     ensures { λ r. ⌜ Replied (now (out .entry)) (answerReply answer) (now (out .exit)) r ⌝ }
@@ -51,7 +51,7 @@ pub fn write_answer(answer: Answer, out: &mut [u8]) -> usize
     }
 }
 
-// What stands in front of the marks: "OK" and a space, or "OK" alone with no engine. The marks themselves, `count` bytes, are in their place already.
+// What precedes the marks: "OK" and a space, or "OK" alone with no engine. The marks themselves, `count` bytes, are already in place.
 pub fn write_marks_front(count: usize, out: &mut [u8]) -> usize
     requires { ⌜ (96 ≤ length (now out)) × (count ≤ 80) ⌝ }
     ensures { λ _. ⌜ now (out .exit) ≡ put (now (out .entry)) 0 (marksFront count) ⌝ }

@@ -1,5 +1,5 @@
-// From readings to a result (document 01, "From reading to result"): each step rounds to the nearest, halves to the even neighbour. The definitions are those of
-// the crate rounding.
+// From readings to a result (document 01, "From reading to result"): each step rounds to the nearest, halves to the even neighbour. The definitions are in the
+// crate rounding.
 ghost use mathlib.Core.Path.{_≡_};
 ghost use mathlib.Core.List.{map};
 ghost use Prim.Native.Nat.{_^_, _≤_, _<_};
@@ -26,7 +26,7 @@ pub fn nearest_even(a: u64, b: u64) -> u64
     q + q % 2
 }
 
-// The readings, each rounded to result units, added.
+// The sum of the readings, each rounded to result units.
 fn rounded_sum(readings: &[u32]) -> u64
     requires { ⌜ length (now readings) ≤ 3 ⌝ }
     ensures { λ r. ⌜ r ≡ sum (map rounded (now (readings .entry))) ⌝ }
@@ -41,7 +41,7 @@ fn rounded_sum(readings: &[u32]) -> u64
     total
 }
 
-// A mean under its factor, in result units.
+// A mean with the factor applied, in result units.
 fn with_factor(factor: Factor, mean: u64) -> u64
     requires { ⌜ mean ≤ 2 ^ 24 ⌝ }
     ensures { λ r. ⌜ r ≡ factored factor mean ⌝ }

@@ -6,7 +6,7 @@ use Prim.Native.Nat.{ℕ}
 use Rattle.rounding.specs.declared.Factor.{Factor}
 use Rattle.rounding.specs.Result.{rounded, mean, factored, resultOf, countInRange, readingInRange, factorInRange, resultInRange}
 
--- a factor that is added, and one that is multiplied by
+-- an additive factor; `multiplied` below is a multiplicative one
 abbrev pub added : ℕ → Factor
 added value = record { kind = 0; value = value }
 
@@ -31,13 +31,14 @@ pub record Cases : Type 0 where
   -- a third is below a half and two thirds are above
   pub meanOfFour3rds : mean (1 ∷ 1 ∷ 2 ∷ []) ≡ 1
   pub meanOfFive3rds : mean (1 ∷ 2 ∷ 2 ∷ []) ≡ 2
-  -- readings 1,500 and 600 are 2 and 1, whose mean is 2; rounded once at the end they would be 1
+  -- readings 1,500 and 600 round to 2 and 1, whose mean rounds to 2; rounding once at the end would give 1
   pub eachReadingRounded : resultOf noFactor (1500 ∷ 600 ∷ []) ≡ 2
-  -- the mean is rounded before the factor is applied: 0 and 3 have the mean 2 (1.5), and 3.5 is 4; not rounded, or with the factor on each, it would be 3
+  -- the mean is rounded before the factor is applied: 0 and 3 have mean 1.5, which rounds to 2, and 2 + 1.5 rounds to 4; with the mean not rounded, or the
+  -- factor applied to each reading, it would be 3
   pub meanThenFactor : resultOf (added 1500) (0 ∷ 2800 ∷ []) ≡ 4
   -- kind 0 adds 1,500 thousandths to 50: 51.5 is rounded to 52
   pub fiftyAnd1500 : factored (added 1500) 50 ≡ 52
-  -- nothing added, and a factor of 1,000 thousandths, leave the largest result as it is
+  -- adding nothing, and a factor of 1,000 thousandths, leave the largest result unchanged
   pub nothingAdded : factored noFactor 20000 ≡ 20000
   pub timesOne : factored (multiplied 1000) 20000 ≡ 20000
   -- "An engine has 1 to 3 readings for each pollutant, each 0 to 20,000,000."

@@ -7,7 +7,7 @@ use lib.ListN.{length}
 use Rattle.conditions.specs.Ranges.{within}
 use Rattle.rounding.specs.declared.Factor.{Factor}
 
--- a / b "to the nearest, halves to the even neighbour": down where the remainder is under half of b, up where it is over,
+-- a / b "to the nearest, halves to the even neighbour": down if the remainder is under half of b, up if it is over,
 -- and at a half to whichever of the two is even
 unfoldable pub nearestEven : ℕ → ℕ → ℕ
 nearestEven a b =

@@ -1,5 +1,5 @@
 // A deterioration factor of one pollutant. Kind 0 adds `value` thousandths of a result unit, kind 1 multiplies by `value` thousandths.
-// Both are as they were given: whether they are in range is asked by a definition.
+// Both are stored as given; `factorInRange` says whether they are in range.
 pub struct Factor {
     pub kind: u32,
     pub value: u32,

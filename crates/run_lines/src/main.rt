@@ -1,5 +1,5 @@
-// A tested run of the calculator: lines that are not of the form, too long or of any bytes, second setups, and many years keyed one after the other; no newline
-// at the end.
+// A tested run of the calculator: lines that are not of the form, too long or of arbitrary bytes, second setups, and many years keyed one after the other; no
+// newline at the end.
 use terminal::serve;
 
 fn main() {

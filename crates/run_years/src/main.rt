@@ -1,4 +1,4 @@
-// A tested run of the calculator: the worked years of examples/ but document 01's, one after another.
+// A tested run of the calculator: the worked years of examples/ except document 01's, one after another.
 use terminal::serve;
 
 fn main() {

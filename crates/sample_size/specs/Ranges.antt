@@ -1,4 +1,4 @@
--- The ranges in which a sample size is worked, met by every history in range (`proofs/Bounds.antt`).
+-- The ranges that computing a sample size requires, met by every history in range (`proofs/Bounds.antt`).
 use Prim.Native.Nat.{ℕ, _*_, _≤_}
 
 -- for a sample size: n engines with their sum S, the newest standard T and the variation V

@@ -1,4 +1,4 @@
-// The required sample size N = 1 + t95² × V × n / (10,000 × (n − 1) × G²), and the stop test (document 01, "Sample size"). The definitions are those of the crate
+// The required sample size N = 1 + t95² × V × n / (10,000 × (n − 1) × G²), and the stop test (document 01, "Sample size"). The definitions are in the crate
 // statistics.
 mod coefficient;
 
@@ -10,7 +10,7 @@ ghost use Rattle.sample_size.specs.Ranges.{SizeInRange};
 use crate::coefficient::t95;
 use statistics::SampleSize;
 
-// How far two numbers are apart.
+// How far apart two numbers are.
 fn distance(a: u64, b: u64) -> u64
     ensures { λ r. ⌜ r ≡ distance a b ⌝ }
 {
@@ -26,7 +26,7 @@ fn numerator(n: u64, variation: u64) -> u64
     t * t * variation * n
 }
 
-// A ten-thousandth of the denominator of N − 1, where g is the size of G. It is not 0.
+// A ten-thousandth of the denominator of N − 1, where g is the magnitude of G. It is never 0.
 fn denominator(n: u64, g: u64) -> u64
     requires { ⌜ (2 ≤ n) × (n ≤ 40) × (1 ≤ g) × (g ≤ 800000) ⌝ }
     ensures { λ r. ⌜ (r ≡ (n - 1) * (g * g)) × (1 ≤ r) × (r ≤ 24960000000000) ⌝ }
@@ -51,7 +51,7 @@ pub fn sample_size_of(n: u64, sum: u64, standard: u64, variation: u64) -> Sample
     SampleSize::Tenths(10 + (above + (tenth - 1)) / tenth)
 }
 
-// N exists, n > N and G ≤ 0. N − 1 is below n − 1 exactly if its whole part is, so no product with n is needed.
+// N exists, n > N and G ≤ 0. N − 1 is below n − 1 exactly if its integer part is, so no product with n is needed.
 pub fn size_reached(n: u64, sum: u64, standard: u64, variation: u64) -> bool
     requires { ⌜ SizeInRange n sum standard variation ⌝ }
     ensures { λ r. ⌜ r ≡ sizeReached n sum standard variation ⌝ }

@@ -1,4 +1,4 @@
-// A buffer of any length and content read as a journal, from its first event to its last.
+// Reading a buffer of any length and content as a journal, from its first event to its last.
 ghost use Prim.Native.Nat.{_≤_};
 ghost use mathlib.Core.Path.{_≡_};
 ghost use lib.ListN.{length};
@@ -16,7 +16,7 @@ use slots::Scanned;
 use slots::enter_slots;
 use slots::no_journal;
 
-// The setup, and the events of the slots.
+// Decodes the setup, and enters the events of the slots.
 fn scan_events(journal: &[u8], count: usize) -> Scanned
     requires { ⌜ (length (now journal) ≡ 544) × (count ≤ 64) ⌝ }
     ensures { λ r. ⌜ ScannedAs r (entered (now (journal .entry)) count) ⌝ }
@@ -28,7 +28,7 @@ fn scan_events(journal: &[u8], count: usize) -> Scanned
     enter_slots(journal, count, start(setup))
 }
 
-// Reads a whole buffer: its size, its header and its unused slots, and then its events.
+// Reads a whole buffer: tests its size, header and unused slots, and then enters its events.
 pub fn scan_journal(journal: &[u8]) -> Scanned
     ensures { λ r. ⌜ ScannedAs r (readJournal (now (journal .entry))) ⌝ }
 {

@@ -1,4 +1,4 @@
-// What a setup says, in code: its ranges and those of an amendment, the test periods, one percent of the volume. The definitions are those of the crate year.
+// The rules of a setup in code: its ranges and those of an amendment, the test periods, one percent of the volume. The definitions are in the crate year.
 ghost use mathlib.Core.Path.{_≡_};
 ghost use Rattle.year.specs.Setup.{standardInRange, standardsInRange, productionInRange, factorsInRange, setupInRange};
 ghost use Rattle.year.specs.Periods.{periods, needs};

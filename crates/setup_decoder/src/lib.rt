@@ -1,4 +1,4 @@
-// What the first 32 bytes of a journal say, and whether they say it in the one way that is accepted.
+// Decoding a journal's first 32 bytes, and testing that they are in the one accepted form.
 ghost use mathlib.Core.Path.{_≡_};
 ghost use Prim.Native.Nat.{_≤_};
 ghost use lib.ListN.{length};
@@ -49,7 +49,7 @@ fn is_start(journal: &[u8]) -> bool
     )
 }
 
-// Whether the first 32 bytes are those of a setup and a number of events: what no setup alters is as it must be.
+// Whether the first 32 bytes encode some setup and number of events: the bytes that are the same for every setup are as they must be.
 pub fn is_header(journal: &[u8]) -> bool
     requires { ⌜ 32 ≤ length (now journal) ⌝ }
     ensures { λ r. ⌜ r ≡ isHeader (now (journal .entry)) ⌝ }

@@ -1,4 +1,4 @@
--- What the writer of a setup asks: what is stored in one byte fits it.
+-- What writing a setup requires: each number stored in one byte fits in a byte.
 use Prim.Native.Nat.{_<_}
 use Rattle.year.specs.declared.Setup.{Setup}
 

@@ -1,4 +1,4 @@
--- What the scan of a buffer tells: whether it is an accepted journal, and the state of the year that it is read as.
+-- The result of scanning a buffer: whether it is an accepted journal, and the state of the year that it is read as.
 use mathlib.Core.Path.{_≡_}
 use mathlib.Core.Bool.{true, cond, not, _&&_}
 use mathlib.Core.List.{List}
@@ -30,14 +30,14 @@ replayed (Year s es) = replay s es
 pub record ScannedAs (r : Scanned) (model : Model) : Type 0 where
   pub accepted : r .accepted ≡ not (noSetup model)
   pub year : progressOf (r .progress) ≡ replayed model
-  -- of an accepted journal, what the state carries beside the year is worked from it
+  -- for an accepted journal, what the state carries along agrees with its year
   pub consistent : r .accepted ≡ true → Consistent (r .progress)
 
 -- the setup and the events of the first slots, if they could have been entered in that order
 unfoldable pub entered : List ℕ → ℕ → Model
 entered journal count = cond (setupInRange (setupIn journal) && entersUpTo journal count) (Year (setupIn journal) (eventsIn journal count)) NoSetup
 
--- the setup is in range, the first slots were entered, and the state stands for their events
+-- the setup is in range, the first slots were entered, and the state represents their events
 pub record Entered (journal : List ℕ) (j : ℕ) (p : State) : Type 0 where
   pub setup : setupInRange (setupIn journal) ≡ true
   pub enters : entersUpTo journal j ≡ true

@@ -18,13 +18,13 @@ use year::Factors;
 use year::Pair;
 use year::Setup;
 
-// Whether a buffer is an accepted journal, and the state of the year that it holds; of a buffer that is not, the state of a setup of zeros.
+// Whether a buffer is an accepted journal, and the state of the year that it holds; if it is not accepted, the state of a setup of zeros.
 pub struct Scanned {
     pub accepted: bool,
     pub progress: Progress,
 }
 
-// The answer for a buffer that is no accepted journal. No journal holds a setup of zeros, which is out of range.
+// The result for a buffer that is not an accepted journal. No journal holds a setup of zeros, which is out of range.
 pub fn no_journal() -> Scanned
     ensures { λ r. ⌜ ScannedAs r NoSetup ⌝ }
 {
@@ -44,9 +44,9 @@ pub fn no_journal() -> Scanned
     }
 }
 
-// The events of the slots entered one after another, from the state of a setup alone. It is `after` of the crate progress for each of them, its arms in the
-// same order, but the state is changed in place and its engines stand apart: to hand the whole on by value at every event costs more than the work. A change of one
-// is a change of both.
+// Enters the events of the slots one after another, starting from the state of a setup alone. Each step is `after` of the crate progress, its arms in the same
+// order, but the state is changed in place and its engines are held apart: passing the whole state by value at every event costs more than the work. A change
+// to one must be made to both.
 pub fn enter_slots(journal: &[u8], count: usize, first: Progress) -> Scanned
     requires { ⌜ (length (now journal) ≡ 544) × (count ≤ 64) × Entered (now journal) 0 first ⌝ }
     ensures { λ r. ⌜ ScannedAs r (entered (now (journal .entry)) count) ⌝ }

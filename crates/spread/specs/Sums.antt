@@ -1,4 +1,4 @@
--- What the code carries of one pollutant's results from engine to engine. Nothing is defined anew here.
+-- What the code carries from engine to engine about one pollutant's results. No figure is redefined here.
 use mathlib.Core.List.{List}
 use lib.ListN.{length}
 use Rattle.statistics.specs.Spread.{Test, total, squares, variation}

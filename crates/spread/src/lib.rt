@@ -1,4 +1,4 @@
-// Sums and sample standard deviation of one pollutant in code (document 01, "Spread, brackets, marks", first paragraph). The definitions are those of the crate
+// Sums and sample standard deviation of one pollutant in code (document 01, "Spread, brackets, marks", first paragraph). The definitions are in the crate
 // statistics.
 pub mod squareroot;
 pub mod summing;

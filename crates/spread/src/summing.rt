@@ -7,7 +7,7 @@ ghost use Rattle.spread.specs.Sums.{sums};
 ghost use Rattle.spread.specs.Ranges.{SumsInRange};
 use crate::Sums;
 
-// The sums of no engine.
+// The sums with no engine.
 pub fn no_sums() -> Sums
     ensures { λ r. ⌜ r ≡ sums [] ⌝ }
 {
@@ -19,7 +19,7 @@ pub fn no_sums() -> Sums
     }
 }
 
-// One engine more: whatever history the sums are of, and whatever the new engine's standard is.
+// The sums with one more engine, whatever history they are of and whatever the new engine's standard is.
 pub fn add_result(s: Sums, result: u32) -> Sums
     requires { ⌜ SumsInRange s result ⌝ }
     ensures { λ r. ⌜ ((h : List Test) (t : ℕ) → s ≡ sums h → r ≡ sums (record { result = result; standard = t } ∷ h)) ⌝ }

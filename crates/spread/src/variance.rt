@@ -5,7 +5,7 @@ ghost use Rattle.spread.specs.Ranges.{DeviationInRange};
 use crate::squareroot::root;
 use statistics::Deviation;
 
-// At a resolution, of n engines' results with this variation V.
+// The deviation at a resolution, for n engines' results with variation V.
 pub fn deviation_of(resolution: u64, n: u64, variation: u64) -> Deviation
     requires { ⌜ DeviationInRange resolution n variation ⌝ }
     ensures { λ r. ⌜ r ≡ deviation resolution n variation ⌝ }

@@ -1,6 +1,6 @@
-// The calculator at a terminal: key lines from standard input, replies to standard output. What a read brings and what a write takes no contract can say: here
-// each byte is fetched and handed to `console::key`, in order, and what that shows is printed. (protocol, specs/Console: for every input, these steps print
-// document 01's run.)
+// The calculator at a terminal: key lines from standard input, replies to standard output. What a read returns and what a write accepts is I/O behaviour,
+// outside the contracts: here each byte is fetched and handed to `console::key`, in order, and what that shows is printed. (protocol, specs/Console: for every
+// input, these steps print document 01's run.)
 ghost use mathlib.Core.Path.{_≡_};
 ghost use mathlib.Core.List.{[]};
 ghost use lib.ListN.{take};
@@ -18,10 +18,10 @@ use libc::read;
 use protocol::HELD_SIZE;
 use protocol::REPLY_SIZE;
 
-// The most bytes of one read.
+// The largest number of bytes in one read.
 const PIECE_SIZE: usize = 4096;
 
-// A byte of the input; whether what it shows was taken. A byte that ends no line shows nothing.
+// Takes a byte of the input; returns whether what it shows was written. A byte that does not end a line shows nothing.
 fn take_byte(
     journal: &mut [u8; JOURNAL_SIZE],
     line: &mut [u8; HELD_SIZE],
@@ -36,7 +36,7 @@ fn take_byte(
     write_all(STDOUT_FILENO, &out[..n])
 }
 
-// A piece of the input; whether all that it shows was taken: where nobody reads the output the rest is left.
+// Takes a piece of the input; returns whether all that it shows was written. If nobody reads the output, the rest of the piece is left.
 fn take_bytes(
     journal: &mut [u8; JOURNAL_SIZE],
     line: &mut [u8; HELD_SIZE],
@@ -55,8 +55,8 @@ fn take_bytes(
     true
 }
 
-// One read, of as many bytes as are there, so that a line is answered when it comes; none at the end of the input. They are left at the front of `space`, `got` of
-// them, so that the contract can speak of them.
+// One read, of as many bytes as are available, so that a line is answered when it arrives; none at the end of the input. They are left at the front of `space`,
+// `got` of them, so that the contract can refer to them.
 fn take_piece(
     journal: &mut [u8; JOURNAL_SIZE],
     line: &mut [u8; HELD_SIZE],
@@ -71,7 +71,7 @@ fn take_piece(
     take_bytes(journal, line, held, &space[..n])
 }
 
-// Reads until the input ends or the output is closed. A proved loop has to end, and nothing says that an input does: it counts down the reads that may follow.
+// Reads until the input ends or the output is closed. A proved loop must terminate, and nothing says that an input ends, so it counts down the reads left.
 fn take_pieces(
     journal: &mut [u8; JOURNAL_SIZE],
     line: &mut [u8; HELD_SIZE],
@@ -107,8 +107,8 @@ fn finish(journal: &mut [u8; JOURNAL_SIZE], line: &[u8; HELD_SIZE], held: usize)
     write_all(STDOUT_FILENO, &out[..n]);
 }
 
-// Answers every line until the input ends or the output is closed, by more reads than any input uses up; how many bytes the last read brought. Document 01's start
-// is required of the caller.
+// Answers every line until the input ends or the output is closed, with more reads than any input needs; returns how many bytes the last read returned. The
+// caller has to provide document 01's starting state.
 fn answer_input(
     journal: &mut [u8; JOURNAL_SIZE],
     line: &mut [u8; HELD_SIZE],

@@ -7,7 +7,7 @@ use crate::numbers::read_arguments;
 use io::read_full;
 use libc::STDIN_FILENO;
 
-// A newline at the end of the input.
+// The next byte of the input; a newline at its end.
 fn next_byte() -> u8 {
     let mut one = [10u8; 1];
     if read_full(STDIN_FILENO, &mut one) == 0 {
@@ -33,14 +33,14 @@ pub fn read_line(line: &mut [u8]) -> usize
     n
 }
 
-// The words of a line, from its third byte on, are printed.
+// Prints the words of a line, from its third byte on.
 fn say(line: &[u8]) {
     if 2 < line.len() {
         text(&line[2..]);
     }
 }
 
-// A line's letter and its numbers, over zeros. The letter T stands before words, which are printed.
+// Returns a line's letter, and reads its numbers into `numbers`, which must be zeroed. The letter T precedes words, which are printed.
 fn obey_line(line: &[u8], numbers: &mut [u32]) -> u8
     requires { ⌜ (0 < length (now line)) × (length (now line) ≤ 256) × (length (now numbers) ≡ 300) ⌝ }
 {
@@ -52,7 +52,7 @@ fn obey_line(line: &[u8], numbers: &mut [u32]) -> u8
     line[0]
 }
 
-// The same of the next line; 0 at the end of the input.
+// The same for the next line; returns 0 at the end of the input.
 pub fn next_letter(numbers: &mut [u32]) -> u8
     requires { ⌜ length (now numbers) ≡ 300 ⌝ }
 {

@@ -1,4 +1,4 @@
-// Numbers from text: digits, one space between two numbers.
+// Numbers read from text: digits, with one space between two numbers.
 ghost use mathlib.Core.Path.{_≡_};
 ghost use Prim.Native.Nat.{_+_, _≤_, _<_};
 ghost use lib.ListN.{length};
@@ -7,7 +7,7 @@ use year::Factors;
 use year::Pair;
 use year::Setup;
 
-// A digit more, or the number as it is at a space. (No number of the inputs is above the largest u32; the remainder keeps the others in it.)
+// Adds a digit to a number; a space leaves it unchanged. (No number in the inputs exceeds u32; the remainder keeps any other in range.)
 fn with_byte(number: u32, b: u8) -> u32 {
     if b == 32 {
         return number;
@@ -15,7 +15,7 @@ fn with_byte(number: u32, b: u8) -> u32 {
     ((number as u64 * 10 + (b % 16) as u64) % 4294967296) as u32
 }
 
-// Where the next byte's number stands: the next place after a space.
+// The place of the number that the next byte belongs to: after a space, the next place.
 fn place_after(place: usize, b: u8) -> usize
     requires { ⌜ place < 1000 ⌝ }
     ensures { λ r. ⌜ r ≤ place + 1 ⌝ }
@@ -26,7 +26,7 @@ fn place_after(place: usize, b: u8) -> usize
     place
 }
 
-// The numbers of a text, over zeros; and how many there are.
+// Reads the numbers of a text into `out`, which must be zeroed; returns how many there are.
 pub fn read_numbers(text: &[u8], out: &mut [u32]) -> usize
     requires { ⌜ (length (now text) < length (now out)) × (length (now out) < 1000) ⌝ }
 {
@@ -41,7 +41,7 @@ pub fn read_numbers(text: &[u8], out: &mut [u32]) -> usize
     place + 1
 }
 
-// The numbers of a line, from its third byte on, over zeros.
+// Reads the numbers of a line, from its third byte on, into `numbers`, which must be zeroed.
 pub fn read_arguments(line: &[u8], numbers: &mut [u32])
     requires { ⌜ (length (now line) ≤ 256) × (length (now numbers) ≡ 300) ⌝ }
 {
@@ -50,7 +50,7 @@ pub fn read_arguments(line: &[u8], numbers: &mut [u32])
     }
 }
 
-// The setup of eight numbers: volume, days, the standards of HC+NOx and of CO, and the kind and value of each factor.
+// The setup from eight numbers: volume, days, the standards of HC+NOx and of CO, and the kind and value of each factor.
 pub fn setup_of(numbers: &[u32]) -> Setup
     requires { ⌜ length (now numbers) ≡ 300 ⌝ }
 {

@@ -1,4 +1,4 @@
-// Text into a lent output, from a position on. Each function answers the position after what it put.
+// Writing text into a lent output at a position. Each function returns the position after what it wrote.
 ghost use mathlib.Core.List.{[], _∷_};
 ghost use Prim.Native.Nat.{_+_, _≤_};
 ghost use lib.ListN.{length};
@@ -23,7 +23,7 @@ pub fn put_bytes(bytes: &[u8], out: &mut [u8], at: usize) -> usize
     at + i
 }
 
-// A number in decimal, of 20 digits at most.
+// A number in decimal, at most 20 digits.
 fn put_decimal(n: u64, out: &mut [u8], at: usize) -> usize
     requires { ⌜ at + 20 ≤ length (now out) ⌝ }
     ensures { λ r. ⌜ Written (now (out .entry)) at (decimal n) (now (out .exit)) r ⌝ }

@@ -15,7 +15,7 @@ use progress::Progress;
 use schedule::needs;
 use schedule::one_percent;
 
-// The first that applies.
+// The first row that applies wins.
 fn first_verdict(
     declared: bool,
     failed: bool,
@@ -58,7 +58,7 @@ pub fn is_short(current: u32, period: u32) -> bool
     current < needs(period)
 }
 
-// The verdict by the figures of both pollutants, worked at one resolution.
+// The verdict from the figures of both pollutants at one resolution.
 pub fn verdict_by(p: Progress, hcnox: Running, co: Running) -> u8
     requires { ⌜ Judged p hcnox co ⌝ }
     ensures { λ r. ⌜ ((k : ℕ) → Figured k (p .engines) hcnox co → r ≡ verdict k (progressOf p)) ⌝ }

@@ -1,5 +1,5 @@
-// A test program: small rules, and years from standard input, event by event, with their figures. Input and expected output are made by tools/worked_years.py, which
-// works from document 01 alone and says how the lines are written.
+// A test program: small rules, and years from standard input, event by event, with their figures. Input and expected output are made by tools/worked_years.py,
+// which works from document 01 alone and describes the line format.
 use crate::work::first_year;
 use crate::work::obey;
 use test_lines::input::next_letter;

@@ -34,7 +34,7 @@ fn result(numbers: &[u32]) -> u64
     result_of(factor, &numbers[3..last])
 }
 
-// The line of a letter and its numbers, if it is one of a small rule: the number that it gives; a point ends the printed line.
+// For the line of a small rule, given as its letter and numbers, prints the number that the rule gives; the letter '.' ends the printed line.
 pub fn print_rule(letter: u8, numbers: &[u32])
     requires { ⌜ length (now numbers) ≡ 300 ⌝ }
 {

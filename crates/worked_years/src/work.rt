@@ -1,4 +1,4 @@
-// A year from the lines so far. An event that could not be entered leaves it as it is.
+// The year after the lines so far. An event that could not be entered leaves it unchanged.
 ghost use mathlib.Core.Path.{_≡_};
 ghost use Prim.Native.Nat.{_≤_};
 ghost use lib.ListN.{length};
@@ -70,7 +70,7 @@ fn at_most(n: u64, most: u64) -> u64
     n
 }
 
-// How many events were entered, the status at 1,024, and the figures of both pollutants worked anew at `resolution`, or at 8,192 where that is less.
+// Prints how many events were entered, the status at 1,024, and the figures of both pollutants recomputed at `resolution`, or at 8,192 if that is less.
 fn print_year(p: Progress, resolution: u32)
     requires { ⌜ Consistent p ⌝ }
 {
@@ -117,7 +117,7 @@ fn is_event(letter: u8) -> bool {
     }
 }
 
-// The year after the line of a letter and its numbers.
+// The year after a line, given as its letter and numbers.
 pub fn obey(p: Progress, letter: u8, numbers: &[u32]) -> Progress
     requires { ⌜ Consistent p × (length (now numbers) ≡ 300) ⌝ }
     ensures { λ r. ⌜ Consistent r ⌝ }

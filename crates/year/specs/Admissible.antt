@@ -20,7 +20,7 @@ use Rattle.year.specs.Verdict.{verdict}
 unfoldable pub closed : Progress → Bool
 closed p = eqb (verdict 1024 p) 6 || eqb (verdict 1024 p) 7
 
--- "64 events are stored", "Forty engines are stored"; more of them never are
+-- "64 events are stored", "Forty engines are stored"; there are never more
 abbrev pub eventsFull : Progress → Bool
 eventsFull p = leb 64 (p .stored)
 
@@ -38,7 +38,7 @@ resultsInRange results = both (λ q. resultInRange (of q results))
 abbrev pub lastPeriod : Progress → Bool
 lastPeriod p = leb (periods (p .setup .volume) (p .setup .days)) (p .period)
 
--- what an event asks for by its kind
+-- the conditions that depend on the event's kind
 abbrev pub fits : Progress → Event → Bool
 fits p (Engine number readings results) =
     numberInRange number && not (isTested number (p .tested)) && countInRange readings && resultsInRange results && not (enginesFull p)

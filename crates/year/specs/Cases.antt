@@ -1,4 +1,4 @@
--- Worked cases of a year beside document 01's starred ones: its two on one percent, its printed run, n = N, an amendment, and what may follow what.
+-- Worked cases of a year besides document 01's starred ones: its two on one percent, its printed run, n = N, an amendment, and which events may follow which.
 -- Events are listed with the newest first.
 use mathlib.Core.Path.{_≡_}
 use mathlib.Core.Bool.{true, false}
@@ -27,11 +27,11 @@ pair hcnox co = record { hcnox = hcnox; co = co }
 abbrev pub setupUnder : ℕ → Pair → Setup
 setupUnder volume standards = record { volume = volume; days = 365; standards = standards; factors = record { hcnox = noFactor; co = noFactor } }
 
--- the same with an HC+NOx standard, and 6,100 for CO
+-- the same with this HC+NOx standard, and 6,100 for CO
 abbrev pub setupOf : ℕ → ℕ → Setup
 setupOf volume standard = setupUnder volume (pair standard 6100)
 
--- an engine of one reading each, with CO 5,000
+-- an engine with one reading per pollutant and CO result 5,000
 abbrev pub engine : ℕ → ℕ → Event
 engine number result = Engine number 1 (pair result 5000)
 
@@ -40,7 +40,7 @@ abbrev pub enginesTo : ℕ → List Event
 enginesTo zero = []
 enginesTo (suc n) = engine (suc n) 800 ∷ enginesTo n
 
--- figures of which all but S are zero, with no N and '-'
+-- figures that are all zero except S, with no N and mark '-'
 abbrev pub onlySum : ℕ → Figures
 onlySum sum =
     record {
@@ -60,7 +60,7 @@ two = replay (setupOf 5000 800) (engine 2 1071 ∷ engine 1 998 ∷ [])
 abbrev pub three : List Event
 three = engine 3 500 ∷ engine 2 500 ∷ engine 1 500 ∷ []
 
--- T 1,000, X twice, P 1,500
+-- T 1,000, the same X twice, P 1,500
 abbrev pub twice : ℕ → Progress
 twice result = replay (setupOf 1500 1000) (engine 2 result ∷ engine 1 result ∷ [])
 
@@ -75,27 +75,27 @@ pub record Cases : Type 0 where
   pub verdictOfOne : verdict 1024 (replay (setupOf 5000 800) (engine 1 998 ∷ [])) ≡ 0
   pub verdictOfTwo : verdict 1024 two ≡ 1
   pub verdictDeclared : verdict 1024 (replay (setupOf 5000 800) (Declaration ∷ engine 2 1071 ∷ engine 1 998 ∷ [])) ≡ 7
-  -- T 800, X 998, 1,071, 926: marks '-', '?', 'O' are verdict 5. Work at m = 8 settles the '?' by 'O', and the year has failed
+  -- T 800, X 998, 1,071, 926: marks '-', '?', 'O' give verdict 5. Work at m = 8 settles the '?' as 'O', and the year has failed
   pub verdictUndecided : verdict 1024 (replay (setupOf 5000 800) (engine 3 926 ∷ engine 2 1071 ∷ engine 1 998 ∷ [])) ≡ 5
   pub verdictSettled : verdictAt 8 (replay (setupOf 5000 800) (engine 3 926 ∷ engine 2 1071 ∷ engine 1 998 ∷ [])) ≡ 6
-  -- work at m = 8 of the first two: s 422,861, e 1
+  -- work at m = 8 on the first two engines: s 422,861, e 1
   pub marksAt8 : marksAt 8 two ≡ Unmarked ∷ Unmarked ∷ Over ∷ Under ∷ []
   pub cumsumAt8 : cumsumAt 8 two 2 Hcnox ≡ interval 8457266 8457267
   pub limitAt8 : limitAt 8 two 2 Hcnox ≡ interval 8457220 8457240
-  -- the year as it was at engine 1, and at engine 2 as CO sees it
+  -- the year as it was at engine 1, and at engine 2 for CO
   pub atEngine1 : atEngine 1 Hcnox two ≡ record { result = 998; standard = 800 } ∷ []
   pub atEngine2 : atEngine 2 Co (replay (setupOf 5000 800) (Engine 3 1 (pair 3 33) ∷ Engine 2 1 (pair 2 22) ∷ Engine 1 1 (pair 1 11) ∷ []))
       ≡ record { result = 22; standard = 6100 } ∷ record { result = 11; standard = 6100 } ∷ []
   -- n = N is no stop: standard 100, results 23, 23, 83, 83, N is exactly 4
   pub verdictAtN : verdict 1024 (replay (setupOf 5000 100) (engine 4 83 ∷ engine 3 83 ∷ engine 2 23 ∷ engine 1 23 ∷ [])) ≡ 1
-  -- one percent of 150 is 2 (1.5): with two engines, verdict 4
+  -- one percent of 150 is 1.5, rounded to 2: with two engines, verdict 4
   pub verdictAtOnePercent : verdict 1024 (replay (setupOf 150 1000) (engine 2 1000 ∷ engine 1 1000 ∷ [])) ≡ 4
   -- a new period is short again
   pub verdictOfNewPeriod : verdict 1024 (replay (setupOf 5000 1000) (NextPeriod ∷ engine 2 1000 ∷ engine 1 1000 ∷ [])) ≡ 0
-  -- an amendment to 10 leaves two engines under 1,000 where they were: verdict 2 stays, and N stays 1
+  -- an amendment to 10 does not affect two engines entered under 1,000: verdict 2 stays, and N stays 1
   pub verdictAmended : verdict 1024 (replay (setupOf 1500 1000) (Amendment (pair 10 10) ∷ engine 2 800 ∷ engine 1 800 ∷ [])) ≡ 2
   pub sizeAmended : status 1024 (replay (setupOf 1500 1000) (Amendment (pair 10 10) ∷ engine 2 800 ∷ engine 1 800 ∷ [])) .hcnox .size ≡ Tenths 10
-  -- and it is T for the engine after it
+  -- and it sets T for the engine after it
   pub testsAmended : history Hcnox (replay (setupOf 5000 800) (engine 2 900 ∷ Amendment (pair 700 6100) ∷ engine 1 998 ∷ []) .tested)
       ≡ record { result = 900; standard = 700 } ∷ record { result = 998; standard = 800 } ∷ []
   pub coTestsAmended : history Co (replay (setupOf 5000 800) (engine 2 900 ∷ Amendment (pair 700 6000) ∷ engine 1 998 ∷ []) .tested)
@@ -107,9 +107,10 @@ pub record Cases : Type 0 where
   pub statusOfNone : status 1024 (replay (setupOf 5000 800) []) ≡ record { n = 0; verdict = 0; hcnox = onlySum 0; co = onlySum 0 }
   -- n counts engines, not events
   pub nAmended : status 1024 (replay (setupOf 5000 800) (Amendment (pair 700 6100) ∷ engine 1 998 ∷ [])) .n ≡ 1
-  -- "The verdict is 6 or 7" is asked at 1,024. T 10, X 2,367, 3,236, 1,499: marks '-', '?', 'O' there, so the year is open; at 1,023 and at 1,025 they would be '-', 'O', 'O'
+  -- "The verdict is 6 or 7" is tested at 1,024. T 10, X 2,367, 3,236, 1,499: marks '-', '?', 'O' there, so the year is open; at 1,023 and at 1,025 they would
+  -- be '-', 'O', 'O'
   pub openAt1024 : closed (replay (setupOf 5000 10) (engine 3 1499 ∷ engine 2 3236 ∷ engine 1 2367 ∷ [])) ≡ false
-  -- nothing follows a declaration or a failure, no number comes twice, and no period follows a short one
+  -- nothing follows a declaration or a failure, no number occurs twice, and no period follows a short one
   pub declaredIsClosed : valid (setupOf 5000 800) (engine 1 998 ∷ Declaration ∷ []) ≡ false
   pub failedIsClosed : valid (setupOf 5000 100) (NextPeriod ∷ three) ≡ false
   pub threeIsValid : valid (setupOf 5000 100) three ≡ true

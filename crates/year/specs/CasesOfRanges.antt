@@ -1,5 +1,5 @@
--- The ends of each range of a setup and of an event, and those of the periods (document 01, "The year that a book holds", "Periods", "The book"): the last number that
--- is in, and the next, which is not.
+-- The ends of every range of a setup and of an event, and of the periods (document 01, "The year that a book holds", "Periods", "The book"): the last number in
+-- range, and the next, which is out of range.
 use mathlib.Core.Path.{_≡_}
 use mathlib.Core.Bool.{true, false}
 use mathlib.Core.List.{List, [], _∷_, map}
@@ -16,14 +16,14 @@ use Rattle.year.specs.Replay.{replay}
 use Rattle.year.specs.Admissible.{eventsFull, enginesFull, numberInRange, resultsInRange, lastPeriod, fits}
 use Rattle.year.specs.Cases.{pair, setupOf, engine, enginesTo}
 
--- a setup of this volume and these days, and one of these factors
+-- a setup with this volume and these days, and one with these factors
 abbrev producing : ℕ → ℕ → Setup
 producing volume days = record { volume = volume; days = days; standards = pair 800 6100; factors = record { hcnox = noFactor; co = noFactor } }
 
 abbrev factoring : Factor → Factor → Setup
 factoring hcnox co = record { volume = 5000; days = 365; standards = pair 800 6100; factors = record { hcnox = hcnox; co = co } }
 
--- two engines in the first period, and the second begun
+-- two engines in the first period, then the second period begun
 abbrev toPeriod2 : List Event
 toPeriod2 = NextPeriod ∷ engine 2 800 ∷ engine 1 800 ∷ []
 
@@ -31,11 +31,11 @@ pub record CasesOfRanges : Type 0 where
   -- "Projected volume P is 1 to 99,999,999, production days D 1 to 366."
   pub volumes : map (λ (p : ℕ). setupInRange (producing p 365)) (0 ∷ 1 ∷ 99999999 ∷ 100000000 ∷ []) ≡ false ∷ true ∷ true ∷ false ∷ []
   pub days : map (λ (d : ℕ). setupInRange (producing 5000 d)) (0 ∷ 1 ∷ 366 ∷ 367 ∷ []) ≡ false ∷ true ∷ true ∷ false ∷ []
-  -- "Standards are whole result units, multiples of ten, 10 to 20,000": of each pollutant
+  -- "Standards are whole result units, multiples of ten, 10 to 20,000": for each pollutant
   pub hcnoxStandards : map (λ (t : ℕ). standardsInRange (pair t 6100)) (0 ∷ 10 ∷ 15 ∷ 20000 ∷ 20010 ∷ []) ≡ false ∷ true ∷ false ∷ true ∷ false ∷ []
   pub coStandards : map (λ (t : ℕ). standardsInRange (pair 800 t)) (0 ∷ 10 ∷ 15 ∷ 20000 ∷ 20010 ∷ []) ≡ false ∷ true ∷ false ∷ true ∷ false ∷ []
   pub setupStandards : setupInRange (setupOf 5000 15) ≡ false
-  -- "Kind 0 adds 0 to 60,000; kind 1 multiplies by 1,000 to 60,000": of each pollutant
+  -- "Kind 0 adds 0 to 60,000; kind 1 multiplies by 1,000 to 60,000": for each pollutant
   pub hcnoxFactors : map (λ (f : Factor). setupInRange (factoring f noFactor)) (added 60000 ∷ added 60001 ∷ multiplied 999 ∷ multiplied 1000 ∷ multiplied 60000 ∷ multiplied 60001 ∷ [])
       ≡ true ∷ false ∷ false ∷ true ∷ true ∷ false ∷ []
   pub coFactors : map (λ (f : Factor). setupInRange (factoring noFactor f)) (added 60000 ∷ added 60001 ∷ multiplied 999 ∷ multiplied 1000 ∷ multiplied 60000 ∷ multiplied 60001 ∷ [])
@@ -45,7 +45,7 @@ pub record CasesOfRanges : Type 0 where
   pub periodsByDays : map (periods 1600) (1 ∷ 120 ∷ 121 ∷ 210 ∷ 211 ∷ 300 ∷ 301 ∷ 366 ∷ []) ≡ 1 ∷ 1 ∷ 2 ∷ 2 ∷ 3 ∷ 3 ∷ 4 ∷ 4 ∷ []
   -- "The first period needs two engines, a later one needs one."
   pub neededEngines : map needs (1 ∷ 2 ∷ 3 ∷ 4 ∷ []) ≡ 2 ∷ 1 ∷ 1 ∷ 1 ∷ []
-  -- "the engine number, 1 to 65,535"; "each result from 0 to 20,000 being allowed", of each pollutant; one to three readings; multiples of ten for an amendment too
+  -- "the engine number, 1 to 65,535"; "each result from 0 to 20,000 being allowed", for each pollutant; 1 to 3 readings; multiples of ten for an amendment too
   pub numbers : map numberInRange (0 ∷ 1 ∷ 65535 ∷ 65536 ∷ []) ≡ false ∷ true ∷ true ∷ false ∷ []
   pub hcnoxResults : map (λ (x : ℕ). resultsInRange (pair x 0)) (0 ∷ 20000 ∷ 20001 ∷ []) ≡ true ∷ true ∷ false ∷ []
   pub coResults : map (λ (x : ℕ). resultsInRange (pair 0 x)) (0 ∷ 20000 ∷ 20001 ∷ []) ≡ true ∷ true ∷ false ∷ []

@@ -1,4 +1,4 @@
--- Demand 3 on the definitions: work at m, resolution 1,024 × m, beside the calculator's at 1,024, for one year.
+-- Demand 3 on the definitions: work at m, resolution 1,024 × m, compared with the calculator's at 1,024, for one year.
 use mathlib.Core.Path.{_≡_}
 use mathlib.Core.Logic.{_≢_}
 use Prim.Native.Nat.{ℕ, _*_, _-_, _≤_}
@@ -20,5 +20,5 @@ pub record FinerWork (m : ℕ) (p : Progress) : Type 0 where
   -- "whose widths are at most n − 1 and 20 units at engine n, a unit being 1/4,096 result unit"
   pub cumsumWidth : (q : Pollutant) (n : ℕ) → 1 ≤ n → n ≤ length (p .tested) → Width (n - 1) (cumsumAt 1 p n q)
   pub limitWidth : (q : Pollutant) (n : ℕ) → 2 ≤ n → n ≤ length (p .tested) → Width 20 (limitAt 1 p n q)
-  -- at the newest engine the year is whole
+  -- at the newest engine, `atEngine` is the whole history
   pub newest : (q : Pollutant) → atEngine (length (p .tested)) q p ≡ history q (p .tested)

@@ -14,7 +14,7 @@ abbrev pub noSetup : Model → Bool
 noSetup NoSetup = true
 noSetup (Year s es) = false
 
--- a test of a year; without a setup it does not hold
+-- a test of a year; false if there is no setup
 abbrev pub ofYear : (Progress → Bool) → Model → Bool
 ofYear test NoSetup = false
 ofYear test (Year s es) = test (replay s es)

@@ -1,4 +1,4 @@
--- The ranges of a year, which every list of events that could have been entered keeps (`valid-in-range` in proofs/Ranges.antt). The code works in them.
+-- The ranges of a year, met by every list of events that could have been entered (`valid-in-range` in proofs/Ranges.antt). The code relies on them.
 use mathlib.Core.Path.{_≡_}
 use mathlib.Core.Bool.{true}
 use mathlib.Core.List.{List, [], _∷_}
@@ -7,7 +7,7 @@ use Rattle.statistics.specs.Ranges.{HistoryInRange}
 use Rattle.year.specs.Setup.{Pollutant, standardsInRange, setupInRange}
 use Rattle.year.specs.Replay.{Tested, Progress, history}
 
--- no engine is of a later period
+-- no engine belongs to a later period
 abbrev pub PeriodsUpTo : ℕ → List Tested → Type 0
 PeriodsUpTo period [] = Unit {0}
 PeriodsUpTo period (x ∷ xs) = (x .period ≤ period) × PeriodsUpTo period xs

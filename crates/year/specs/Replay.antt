@@ -1,4 +1,4 @@
--- What a setup and its events amount to: every figure of document 01 is worked from this, and none looks at the events themselves.
+-- What a setup and its events amount to: every figure of document 01 is computed from this, and none looks at the events themselves.
 -- Events and tested engines are listed with the newest first.
 use mathlib.Core.Bool.{Bool, true, false, cond, _||_}
 use mathlib.Core.List.{List, [], _∷_}
@@ -32,7 +32,7 @@ pub record Progress : Type 0 where
 abbrev pub start : Setup → Progress
 start s = record { setup = s; standards = s .standards; period = 1; tested = []; stored = 0; declared = false }
 
--- one event more, for each thing that events change. "An amendment .. sets T for later engines."
+-- the effect of one more event, for each thing that events change. "An amendment .. sets T for later engines."
 abbrev pub standardsAfter : Event → Pair → Pair
 standardsAfter (Engine number readings results) inForce = inForce
 standardsAfter (Amendment standards) inForce = standards
@@ -87,7 +87,7 @@ testedIn period (x ∷ xs) = cond (eqb (x .period) period) 1 0 + testedIn period
 abbrev pub short : Progress → Bool
 short p = ltb (testedIn (p .period) (p .tested)) (needs (p .period))
 
--- whether an engine of this number is among the tested
+-- whether an engine with this number has been tested
 abbrev pub isTested : ℕ → List Tested → Bool
 isTested number [] = false
 isTested number (x ∷ xs) = eqb (x .number) number || isTested number xs

@@ -23,11 +23,11 @@ abbrev pub factorOf : Pollutant → Setup → Factor
 factorOf Hcnox setup = setup .factors .hcnox
 factorOf Co setup = setup .factors .co
 
--- a test of both pollutants
+-- both pollutants pass a test
 abbrev pub both : (Pollutant → Bool) → Bool
 both test = test Hcnox && test Co
 
--- a test of each of some pollutants, and of at least one of them
+-- every pollutant of a list passes a test; for `some`, at least one does
 abbrev pub every : (Pollutant → Bool) → List Pollutant → Bool
 every test [] = true
 every test (q ∷ []) = test q

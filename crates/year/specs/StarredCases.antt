@@ -1,4 +1,4 @@
--- The starred cases of document 01, "Cases on the edges", every one of them and in its order, as one statement about the definitions.
+-- All the starred cases of document 01, "Cases on the edges", in its order, as one statement about the definitions.
 -- Events are listed with the newest first.
 use mathlib.Core.Path.{_≡_}
 use mathlib.Core.List.{[], _∷_, reverse}

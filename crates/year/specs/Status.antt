@@ -16,7 +16,7 @@ use Rattle.year.specs.Setup.{Pollutant, Hcnox, Co, judged}
 use Rattle.year.specs.Replay.{Tested, Progress, history}
 use Rattle.year.specs.Verdict.{verdict}
 
--- "Before engine 2 the figures other than n, S and verdict are zero ..; with no engine the mark is '-'." Engine 1 has '-' too. N stands beside the figures
+-- "Before engine 2 the figures other than n, S and verdict are zero ..; with no engine the mark is '-'." Engine 1 has '-' too. N is a separate argument
 abbrev pub early : ℕ → SampleSize → Figures
 early sum size =
     record {
@@ -60,7 +60,7 @@ status k p =
       co = figures k (sizeOf Co p) (history Co (p .tested));
     }
 
--- the newest engine's mark for each of some pollutants
+-- the newest engine's mark for each pollutant of a list
 abbrev pub newestMarks : List Pollutant → ℕ → List Tested → List Mark
 newestMarks qs k xs = map (λ q. mark k (history q xs)) qs
 

@@ -20,7 +20,7 @@ abbrev pub verdictTable : (declared failed undecided short reached thirty percen
 verdictTable declared failed undecided short reached thirty percent =
     (declared, 7) ∷ (failed, 6) ∷ (undecided, 5) ∷ (short, 0) ∷ (reached, 2) ∷ (thirty, 3) ∷ (percent, 4) ∷ []
 
--- 6 and 5 are asked of one pollutant's marks, 2 of both pollutants
+-- 6 and 5 test the marks of any one pollutant, 2 tests both pollutants
 abbrev pub verdictRows : ℕ → Progress → List Row
 verdictRows k p =
     verdictTable

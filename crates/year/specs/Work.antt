@@ -1,4 +1,4 @@
--- Document 01, "Spread, brackets, marks": "Work at m takes k = 1,024 × m in all of this, and its marks in the verdict below". The calculator's work is that at m = 1.
+-- Document 01, "Spread, brackets, marks": "Work at m takes k = 1,024 × m in all of this, and its marks in the verdict below". The calculator works at m = 1.
 use mathlib.Core.List.{List}
 use Prim.Native.Nat.{ℕ, _*_, _-_}
 use lib.ListN.{length, drop}
@@ -11,7 +11,7 @@ use Rattle.year.specs.Replay.{Progress, history}
 use Rattle.year.specs.Verdict.{verdict}
 use Rattle.year.specs.Status.{yearMarks}
 
--- the first n engines of a year as one pollutant sees them: the year as it was at engine n
+-- the first n engines of a year for one pollutant: the year as it was at engine n
 abbrev pub atEngine : ℕ → Pollutant → Progress → List Test
 atEngine n q p = history q (drop (length (p .tested) - n) (p .tested))
 

@@ -22,7 +22,7 @@ pub struct Factors {
     pub co: Factor,
 }
 
-// Projected volume P, production days D, the first standards, the factors. Any values: whether they are in range is asked by a definition.
+// Projected volume P, production days D, the first standards, the factors. Any values; `setupInRange` says whether they are in range.
 pub struct Setup {
     pub volume: u32,
     pub days: u32,
@@ -30,7 +30,7 @@ pub struct Setup {
     pub factors: Factors,
 }
 
-// What is stored of an accepted entry. `readings` is the number of readings for each pollutant.
+// What is stored for an accepted entry. `readings` is the number of readings for each pollutant.
 pub enum Event {
     Engine {
         number: u32,
