@@ -9,7 +9,8 @@ Run from the repository's root. Forms of a citation:
   decoder/code_kind_5             a must-fail edit; behind it in the same row, code_version_0 alone is an edit of that crate too
   tests/years.sh, progress/proofs a file or a folder, from the root, from crates/, in any crate, or from the document's folder
   entries/promise_..              anything that begins so
-  answer                          a crate, a name in definitions, laws or code, an edit or a file; so is each word of three letters or more in a longer text
+  python3 tools/runs.py           a script
+  answer                          a crate, a name in definitions, laws, code or tools, an edit or a file; so is each word of three letters or more in a longer text
 """
 import os
 import re
@@ -20,7 +21,8 @@ DOCUMENTS = ['README.md', 'CONTRIBUTING.md', 'examples/README.md', 'tests/cross/
 
 # What is cited and is nothing of the tree: the language, options and commands, the keys' letters, C, what is built.
 ALLOWED = {'&&', '||', '-', '&mut', '&mut u8', 'let', 'let .. else', 'requires', 'crate::module::function', '--calls', '--names', '--case', 'S', 'E', 'A', 'P', 'X',
-           'L', 'OK', 'NO', 'N passed, 0 failed', 'memcpy', 'memset', 'libplt.a', '../../target/staticlib', 'PLT_LIB', 'NAME.replies.txt'}
+           'L', 'OK', 'NO', 'N passed, 0 failed', 'memcpy', 'memset', 'libplt.a', '../../target/staticlib', 'PLT_LIB', 'NAME.replies.txt', '--write', '--save FILE',
+           'must-fail/LABEL.edit', 'target/must-fail/NAME/LABEL/.log', 'crates/*/specs/'}
 COMMANDS = ('rt ', './calculator ')
 # Key lines and replies, which tests/manual.py looks for.
 KEYED = re.compile(r'(OK|NO) .*|[A-Z]( \d+)+')
@@ -81,7 +83,8 @@ class Tree:
             for holder, fields in source.fields.items():
                 self.fields.setdefault(holder, set()).update(fields)
         files = paths + glob('tests/cross/src/**/*.rs', recursive=True)
-        self.names = self.crates.union({os.path.basename(p).split('.')[0] for p in files}, *(s.names for s in self.sources.values()))
+        tools = [name for path in glob('tools/*.py') for name in re.findall(r'^def (\w+)', read(path), re.M)]
+        self.names = self.crates.union(tools, {os.path.basename(p).split('.')[0] for p in files}, *(s.names for s in self.sources.values()))
 
     def elsewhere(self, name):
         """Where a name that was looked for in vain could be meant, as the end of a message."""
@@ -112,6 +115,9 @@ class Checker:
         if text in ALLOWED or text.startswith(COMMANDS) or KEYED.fullmatch(text):
             return None
         self.checked += 1
+        script = re.fullmatch(r'(?:python3|bash) (\S+).*', text)
+        if script:
+            return self.path(script.group(1))
         in_file = re.fullmatch(r'([\w/]+): (\S+)', text)
         if in_file:
             return self.in_file(*in_file.groups())
