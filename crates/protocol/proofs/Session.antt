@@ -1,4 +1,4 @@
--- Lines on a zeroed journal do as the reference model does.
+-- Lines on a zeroed journal behave as the reference model does.
 use mathlib.Core.Path.{_≡_, refl, _∙_}
 use mathlib.Core.Bool.{Bool, true, false, cond}
 use mathlib.Core.List.{List, [], _∷_}

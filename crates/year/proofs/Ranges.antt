@@ -30,7 +30,7 @@ left a b h = and-eq-true-iff a b .0 h .0
 right : (a b : Bool) → (a && b) ≡ true → b ≡ true
 right a b h = and-eq-true-iff a b .0 h .1
 
--- a test that both pollutants pass, each passes
+-- if both pollutants pass a test, each does
 pub both-of : (test : Pollutant → Bool) → (test Hcnox && test Co) ≡ true → (q : Pollutant) → test q ≡ true
 both-of test h Hcnox = left (test Hcnox) (test Co) h
 both-of test h Co = right (test Hcnox) (test Co) h

@@ -17,7 +17,7 @@ use Rattle.reader.proofs.digits.number_at.Tie as tie
 
 -- facts about the digits that were read
 module _ (line : List ℕ) (at end value : ℕ) (r : DigitsRead line at end value) where
-  -- if they are not a number, all the digits at this position are not a number either
+  -- if they are not a number, neither are all the digits at this position
   no-number : isNumber line at (end - at) ≡ false → isNumber line at (digits (drop at line)) ≡ false
   no-number f =
       ⊎-elim
