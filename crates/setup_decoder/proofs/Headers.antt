@@ -1,4 +1,4 @@
--- The header of a journal, read from its first 32 bytes: the code's tests are the definition's. Bytes that hold a setup or the number of events encode back.
+-- The header of a journal, its first 32 bytes: the code's tests are the definition's, since the setup and the number of events in it encode to the same bytes.
 use mathlib.Core.Path.{_≡_}
 use mathlib.Core.Bool.{_&&_, and-true, and-assoc}
 use mathlib.Core.List.{List}

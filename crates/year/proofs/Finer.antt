@@ -37,7 +37,7 @@ rows-finer false false false true u′ rest a b n = absurd (false≢true (b refl
 rows-finer false false false false true rest a b n = absurd (false≢true (b refl))
 rows-finer false false false false false rest a b n = refl
 
--- if one test implies another, so do their `some` over the pollutants
+-- `some` over the pollutants is monotone in its test
 some-map : {f g : Pollutant → Bool} (qs : List Pollutant) → ((q : Pollutant) → So (f q) → So (g q)) → So (some f qs) → So (some g qs)
 some-map [] h t = t
 some-map (q ∷ []) h t = h q t
