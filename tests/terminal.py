@@ -1,9 +1,10 @@
 #!/usr/bin/env python3
-"""What no contract can say of the calculator: that it answers each line as soon as its newline comes, whatever pieces the input comes in, and ends quietly.
+"""Tests the calculator's input and output, which are outside the contracts: it answers each line as soon as its newline comes, whatever pieces the input comes
+in, and ends quietly.
 
     python3 tests/terminal.py target/bin/calculator
 
-Run from the repository's root. It prints a line for each thing tried, and fails at the first that does not hold.
+Run from the repository's root. It prints a line for each test, and stops at the first that fails.
 """
 import os
 import random
@@ -26,7 +27,7 @@ def start(*words, **more):
 
 
 def ended(child):
-    """Its exit status, once it has ended by itself; it said nothing."""
+    """Its exit status, once it has ended by itself; its standard error must be empty."""
     status = child.wait(SECONDS)
     assert child.stderr.read() == b''
     child.stderr.close()
@@ -35,7 +36,7 @@ def ended(child):
 
 @contextmanager
 def limit(child):
-    """It is ended if it does not end by itself."""
+    """Kills the child if it does not end by itself in time."""
     timer = threading.Timer(SECONDS, child.kill)
     timer.start()
     try:
@@ -45,7 +46,7 @@ def limit(child):
 
 
 def at_once(program):
-    """A person keys a line, and sees the reply before the next."""
+    """A person keys a line, and sees the reply before keying the next."""
     given, wanted = stored('calculator')
     child = start(program, stdin=subprocess.PIPE, stdout=subprocess.PIPE)
     for line, reply in zip(given.splitlines(True), wanted.splitlines(True)):
@@ -63,7 +64,7 @@ def at_once(program):
 
 
 def in_pieces(program, run, sizes):
-    """Each piece is read by itself: the pipe keeps them apart. (It drops what a read has no room for, so none is larger than the 4,096 bytes of a read.)"""
+    """Each piece is read by itself: the pipe keeps pieces apart. (It drops what does not fit a read, so no piece is larger than the 4,096 bytes of a read.)"""
     assert max(sizes) <= 4096
     given, wanted = stored(run)
     rng = random.Random(run)
@@ -87,7 +88,7 @@ def in_pieces(program, run, sizes):
 
 
 def output_closed(program, ignored):
-    """Nobody reads the output: it ends though the input goes on, by the signal or, where that is ignored, by itself."""
+    """Nobody reads the output: the program ends although the input goes on, by the signal or, if that is ignored, by itself."""
     reader, writer = os.pipe()
     child = start(program, stdin=subprocess.PIPE, stdout=writer, restore_signals=not ignored)
     os.close(reader)
@@ -105,7 +106,7 @@ def peak(child):
 
 
 def long_line(program, size):
-    """A line far longer than the memory that it is dropped in; the next is answered."""
+    """A line far longer than the memory in use while it is dropped; the next line is answered."""
     child = start(program, stdin=subprocess.PIPE, stdout=subprocess.PIPE)
     with limit(child):
         child.stdin.write(b'L\n' + b'7' * size + b'\nL\n')

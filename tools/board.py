@@ -1,9 +1,9 @@
 #!/usr/bin/env python3
-"""board.py [ARCHIVE]: what a board has to give to libplt.a: the size of its code and tables, and the stack that each exported function needs at most.
+"""board.py [ARCHIVE]: the memory that libplt.a needs on a board: the size of its code and tables, and an upper bound on the stack of each exported function.
 
-The stack is read off the machine code (objdump, x86-64): a function's own pushes and frame, and below them the deepest call that it makes, or where it makes none
-the 128 bytes below the frame that the calling convention lets it use. memcpy and memset are the host's own and count only by their return address. What this way
-of counting cannot follow (a call through a pointer, a frame of no fixed size) ends it with an error."""
+The stack is read off the machine code (objdump, x86-64): a function's own pushes and frame, plus its deepest call or, if it makes none, the red zone: the 128 bytes
+below the frame that the calling convention lets it use. memcpy and memset belong to the host, and only their return address is counted. Anything that cannot be
+counted in this way (a call through a pointer, a frame of no fixed size) ends the run with an error."""
 import re
 import subprocess
 import sys
@@ -20,7 +20,7 @@ class Function:
 
 
 def read(line, last, function, name):
-    """One instruction, `last` the one before it."""
+    """Counts one instruction; `last` is the one before it."""
     if re.search(r'\tpush\b', line):
         function.frame += 8
     frame = re.search(r'\tsub\s+\$0x([0-9a-f]+),%rsp', line)
@@ -30,7 +30,7 @@ def read(line, last, function, name):
         raise SystemExit(f'{name} has a frame of no fixed size: {line.strip()}')
     if re.search(r'\tcall\s+\*', line):
         raise SystemExit(f'{name} calls through a pointer: {line.strip()}')
-    # a jump through a register is one into a table of places within the function, whose base was just added
+    # a jump through a register is a jump table within the function if its base was just added
     if re.search(r'\tjmp\s+\*', line) and not re.search(r'\tadd\b', last):
         raise SystemExit(f'{name} jumps through a pointer: {line.strip()}')
 

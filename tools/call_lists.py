@@ -12,15 +12,15 @@ The input has one call to a line: a letter, then decimal numbers, each after one
   E number a b r.. r..        engine: a readings of HC+NOx, then b of CO
   A t1 t2   P   X   Q         amendment, next period, declaration, status
   L size                      the strip, into the first `size` bytes of an array of 100 that are all '.' before
-Printed is a line for each of S E A P X Q:
+It prints a line for each of S E A P X Q:
   refusal n verdict, then S s e Clow Chigh Hlow Hhigh N mark of HC+NOx and of CO, then a digest of all 560 bytes;
 and for L:
   refusal length |the array of 100| refusal |the part handed back| digest of the 100 bytes after that second call, digest of the 560 bytes.
 
-Each answer is worked twice: as the lowest refusal of all that hold, and as what the plain year of the calls (the arguments alone) says.
-Each strip is worked a second way, from fractions, and beside work at m = 2 and 8, which must keep what demand 3 says.
-Counts of what was met go to standard error; the script fails if a refusal, a verdict, a mark or a pair of refusals that can hold at once (of which the
-lower must come) was never met.
+Each answer is computed twice: as the lowest of all refusals that hold, and from the plain year of the calls (their arguments alone).
+Each strip is computed a second time, from fractions, and compared with work at m = 2 and 8, which must be as demand 3 says.
+Counts of what occurred go to standard error; the script fails if a refusal, a verdict, a mark or a pair of refusals that can hold at once (of which the
+lower must be given) never occurred.
 """
 import copy
 import random
@@ -70,14 +70,14 @@ def strip_of(year):
 
 
 class Finer(Year):
-    """Work at m: the events of the book stay, also where the finer marks have failed."""
+    """Work at m: the events of the book stay, even if the finer marks have failed."""
 
     def closed(self):
         return False
 
 
 def finer_work(year, m):
-    """Demand 3 for one book: how many open marks work at m settles, every other mark, verdict and bracket being as it must be."""
+    """Demand 3 for one book: returns how many '?' marks work at m settles, and checks every other mark, the verdict and the brackets."""
     finer = Finer(year.setup, K * m)
     for ev in year.events:
         assert finer.enter(ev) == 0
@@ -107,7 +107,7 @@ def results_of(setup, hcnox, co):
 
 
 def rows_that_hold(letter, args, lent, accepted, year):
-    """Every refusal of the table that applies. `year` is the book, or what stood there before it was damaged: then it can only add rows after 7."""
+    """Every refusal of the table that applies. `year` is the book or, if that is damaged, the book before: then it can only add rows after 7."""
     held = set()
 
     def row(number, test):
@@ -165,7 +165,7 @@ class Lists:
         return bytes(SIZE) if self.plain is None else encode(self.plain.setup, self.plain.events)
 
     def say(self, text):
-        """One line of input; the number of the refusal of a call."""
+        """Takes one line of input; returns the number of a call's refusal."""
         self.input.append(text)
         letter, numbers = text[0], None
         if letter == '#':
@@ -210,7 +210,7 @@ class Lists:
         return refusal
 
     def entered(self, letter, args, refusal, year):
-        """The year's own order of refusals says the same (12 is not its business)."""
+        """Year.enter, with its own order of checks, gives the same refusal (it does not check 12)."""
         event = event_of(letter, args, year.setup)
         if refusal != 12:
             assert year.enter(event) == refusal, (letter, args, refusal)
@@ -236,7 +236,7 @@ class Lists:
     def strip(self, size, refusal, year):
         assert size <= STRIP
         marks = '' if refusal else strip_of(year)
-        if not refusal:                     # the marks worked in another way: the spread of each engine anew, from fractions
+        if not refusal:                     # the marks computed in another way: the spread of each engine anew, from fractions
             again = [literal_marks(year.setup, year.events, which) for which in (0, 1)]
             assert marks == ''.join(a + b for a, b in zip(*again))
             for m in (2, 8):
@@ -247,7 +247,7 @@ class Lists:
         self.output.append('%d %d |%s| %d |%s| %d %d' % (refusal, len(marks), whole, refusal, marks,
                                                         digest(whole.encode()), digest(self.array)))
 
-    # The lines, with the refusal that is meant; None for any.
+    # The lines, with the refusal that is expected; None for any.
 
     def put(self, want, letter, *numbers):
         refusal = self.say(' '.join([letter] + [str(x) for x in numbers]))
@@ -597,7 +597,7 @@ def next_mark(p, x, t):
 
 
 def close(rng, p, standards):
-    """A standard of the list and a result with which the next mark is '?', or None. The edge of 'O' is found by halving."""
+    """A standard of the list and a result with which the next mark is '?', or None. The edge of 'O' is found by bisection."""
     centres = [round(p.S / p.n), rng.randrange(20001)]
     for t in standards:
         for centre in centres:
@@ -701,7 +701,7 @@ def alone(o):
 
 
 def set_state(o, days, flags):
-    """A year in which just the wanted rows among 8, 9 and 14 hold for an engine; 8 as 6 (failed) or 7 (declared). All results are 10,000."""
+    """A year in which just the wanted rows among 8, 9 and 14 hold for an engine; 8 by verdict 6 (failed) or 7 (declared). All results are 10,000."""
     engines = 40 if 14 in flags else 4
     failed, declared = 6 in flags, 7 in flags
     spare = (64 if 9 in flags else engines + 2) - engines - failed - declared
@@ -764,7 +764,7 @@ def at_once(o):
 
 
 def engine_rows(o, flags, unread, turn):
-    """An engine with each set of rows 10 to 13, but the one that would be accepted."""
+    """An engine for each set of rows 10 to 13, except the set that would be accepted."""
     for number_bad in (False, True):
         for held, kinds in ENGINE_READINGS.items():
             if not (number_bad or held or flags or unread):
@@ -790,7 +790,7 @@ def other_rows(o, flags, days, damaged, lent):
 
 
 def accepted_last(o, flags, days):
-    """What is accepted in this state, after all that is not."""
+    """The calls that are accepted in this state, after all those that are not."""
     if 6 in flags or 7 in flags or 9 in flags:
         return
     o.A(10000, 10000)
@@ -851,7 +851,7 @@ def ranges(o):
 
 
 def largest_reading(k, f):
-    """By halving: results grow with the reading."""
+    """By bisection: results grow with the reading."""
     a, b = 0, 20000001
     while b - a > 1:
         m = (a + b) // 2
@@ -1046,7 +1046,7 @@ def readings_for(rng, kind, factor, x):
 
 
 def sibling(rng, readings, kind, factor, x):
-    """As many readings as the other pollutant has, with the result x if that can be."""
+    """As many readings as the other pollutant has, with the result x if possible."""
     for _ in range(20):
         got = readings_for(rng, kind, factor, x)
         if got is not None and len(got) == len(readings):
@@ -1094,7 +1094,7 @@ def random_setup(rng, styles):
 
 
 def random_engine(o, rng, styles, number):
-    """An engine in the styles; with 'close' a standard and a result are looked for that give '?', the standard by an amendment."""
+    """An engine in the styles; with 'close', a standard (set by an amendment) and a result are sought that give '?'."""
     year = o.book()
     standards, results = list(year.standards), [0, 0]
     for i, p in enumerate((year.h, year.c)):
@@ -1196,7 +1196,7 @@ def random_lists(o):
 
 
 def counts(o):
-    """What was met, to standard error; fails if a case was not."""
+    """Prints what occurred, to standard error; fails if a case never did."""
     def tell(*words):
         print(*words, file=sys.stderr)
 

@@ -8,11 +8,11 @@ from fractions import Fraction
 from math import isqrt
 from model import A, D, E, HEAD, K, P, SIZE, SLOT, decode, encode, period_count, read, self_check
 
-# ------------------------------ second reading, slow: S, Q and s of each engine worked anew; it shares decode and the ranges with the first
+# ------------------------------ second, slow reader: S, Q and s of each engine computed anew; it shares decode and the ranges with the first
 
 
 def literal_marks(setup, events, which):
-    """Marks of pollutant `which` (0 or 1); the spread is worked from the whole prefix, C is carried along."""
+    """Marks of pollutant `which` (0 or 1); the spread is computed from the whole prefix, C is carried along."""
     T, X, Ts = setup[2 + which], [], []
     for ev in events:
         if ev[0] == 'A':
@@ -51,13 +51,13 @@ def literal_accepts(buf):
     for ev in events:
         if ev[0] == 'A' and not all(t in range(10, 20001, 10) for t in ev[1:]):
             return False
-    # a declaration, or a second 'O' running, only as the last event
+    # a declaration, or a second consecutive 'O', may come only with the last event
     if any(ev[0] == 'D' for ev in events[:-1]):
         return False
     for which in (0, 1):
         if 'OO' in ''.join(literal_marks(setup, events[:-1], which)):
             return False
-    # periods: all but the last started one have their engines
+    # periods: each but the one begun last has the engines it needs
     text = ''.join(ev[0] for ev in events if ev[0] in 'EP').split('P')
     if len(text) > period_count(setup[0], setup[1]):
         return False
@@ -114,7 +114,7 @@ BASES = [
 
 
 def bytes_damage(book):
-    """Each byte changed to each other value, from the next one up, round to the one below."""
+    """Each byte changed to each other value, counting up from its own and wrapping round at 256."""
     for i in range(SIZE):
         for v in range(1, 256):
             b = bytearray(book)
@@ -142,7 +142,7 @@ def filled():
         yield bytes([v]) * SIZE
 
 
-STRIDE = 13     # every 13th buffer is also judged by the second reading
+STRIDE = 13     # every 13th buffer is also judged by the second reader
 
 
 def run(buffers):

@@ -2,9 +2,9 @@
 """Checks that crates.txt names, for each crate, what it uses and nothing else.
 
 Run from the repository's root. A crate uses the crates that its code, definitions and proofs name: in code at the front of a path, as in year::Setup; in all three
-as Rattle.year (Rattle.year.specs is the crate's own). And it uses the crates of the types that it comes by without naming them, since a proof has to know how they
-are made: those in the signature of a function that it names, and those in the fields of a type.
-With --write the lists that are wrong are written anew, in the order in which crates.txt has the crates.
+as Rattle.year (Rattle.year.specs is the crate's own). It also uses the crates of types that it meets without naming them, since a proof has to know how they are
+defined: the types in the signature of a function that it names, and those of a type's fields.
+With --write, wrong lists are rewritten, in the order of the crates in crates.txt.
 """
 import re
 import sys
@@ -20,12 +20,12 @@ def read(path):
 
 
 class Module:
-    """A file of code: what it imports, and what each item of it is made of."""
+    """A file of code: what it imports, and the types that each of its items mentions."""
 
     def __init__(self, crate, path):
         text = read(path)
         paths = re.findall(r'(?<![\w:])(\w+(?:::\w+)+)', text)
-        # name → (crate, name) of all that stands in a path
+        # name → (crate, name), for every path in the file
         self.imports = {p.split('::')[-1]: (crate if p.startswith('crate::') else p.split('::')[0], p.split('::')[-1]) for p in paths}
         self.items = {}
         declared = re.findall(r'(?:struct|enum) (\w+)(.*?\n\}|\(.*?\);)', text, re.S)
@@ -56,7 +56,7 @@ class Tree:
         return (found & self.known) - {crate}
 
     def unknown(self, crate):
-        """What this crate's `use` lines name and is no crate."""
+        """What this crate's `use` lines name that is not a crate."""
         texts = [read(p) for p in glob('crates/%s/src/**/*.rt' % crate, recursive=True)]
         return {name for text in texts for name in re.findall(r'^use (\w+)::', text, re.M)} - self.known - {'crate', 'std'}
 

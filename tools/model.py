@@ -25,7 +25,7 @@ def round_even(a, b):
 
 
 def result_of(kind, factor, readings):
-    """The result X of an engine's readings, as large as it comes; 1 or more readings."""
+    """The result X of an engine's readings, with no upper limit; 1 or more readings."""
     mean = round_even(sum(round_even(r, 1000) for r in readings), len(readings))
     if kind == 0:
         return round_even(1000 * mean + factor, 1000)
@@ -177,7 +177,7 @@ class Year:
         return 1
 
     def enter(self, ev):
-        """Number of the refusal, or 0 and the event is added."""
+        """Returns the number of the refusal; or adds the event and returns 0."""
         kind = ev[0]
         if kind == 'A' and not (standard_ok(ev[1]) and standard_ok(ev[2])):
             return 5
@@ -261,7 +261,7 @@ def decode_slot(slot):
 
 
 def decode(buf):
-    """Setup and events as written, admissible order not yet checked; or None."""
+    """Setup and events as stored, not yet checked to be admissible in that order; or None."""
     if len(buf) != SIZE:
         return None
     if buf[0:3] != b'PLT' or num(buf, 3, 2) != 1 or any(buf[5:8]) or any(buf[25:32]):

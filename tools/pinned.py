@@ -1,13 +1,13 @@
 #!/usr/bin/env python3
-"""Which numbers, orders and comparisons of the definitions no statement holds.
+"""Finds numbers, orders and comparisons in the definitions that no statement pins down.
 
     python3 tools/pinned.py CRATE FILE..      e.g. year Verdict Periods
 
-changes specs/FILE.antt of a crate of definitions, one place at a time: each number by one, each comparison, connective, pollutant, constructor and letter by its
-neighbour. A definition is what a reader has to believe, so each change should break a worked case (proofs/*Cases*, Run) or at least a law. Listed is each change
-that broke no case, with the laws that it broke; the last line counts. It works on a copy of the repository, makes one check of the crate for each change, and is no
-part of the gate. What it lists has to be judged, since some changes change nothing (a default that is never read, the end of a range between two multiples of ten); and what
-it does not try is another shape: a condition left out, or one engine, reading or pollutant taken for another.
+changes specs/FILE.antt of a crate of definitions, one place at a time: each number by one; each comparison, connective, pollutant, constructor and letter to its
+neighbour. A definition is what a reader has to believe, so each change should break a worked case (proofs/*Cases*, Run) or at least a law. It lists each change
+that broke no case, with the laws that it broke; the last line has the counts. It works on a copy of the repository, checks the crate once for each change, and is
+not part of the gate. The list has to be judged, since some changes have no effect (a default that is never read, the end of a range between two multiples of ten).
+It does not try changes of another shape: a condition left out, or one engine, reading or pollutant used in place of another.
 """
 import os
 import re
@@ -24,7 +24,7 @@ NEIGHBOURS = [("leb", "ltb"), ("leb", "eqb"), ("ltb", "eqb"), ("&&", "||"), (".h
 
 
 def right_side(line):
-    """Where the right side of a definition's line begins, or none where the line has none: imports, comments, signatures, declarations."""
+    """Where the right side of a definition's line starts, or None if the line has none: imports, comments, signatures, declarations."""
     code = line.strip()
     if not code or code.startswith(("--", "use ", "module ", "pub record ", "pub data ", "abbrev ", "unfoldable ")) or re.match(r"(pub )?\w+ : ", code):
         return None
@@ -53,7 +53,7 @@ def changes(line, start):
 
 
 def write_edits(copy, crate, files):
-    """One edit for each change; its label and what it says."""
+    """Writes one edit for each change; returns a description of each, by its label."""
     folder = os.path.join(copy, "crates", crate, "must-fail")
     os.makedirs(folder)
     told = {}
@@ -86,10 +86,10 @@ def main():
                 log = ""
             fell = {m.group(1) for m in re.finditer(r"^\S*/(\w+/\S+?)\.antt:\d+:\d+: error: (?!.*was not admitted)", log, re.M)}
             if any(f.startswith("specs/") for f in fell):
-                continue  # another type, or one name too few: no definition
+                continue  # a type error or a missing name: not a definition any more
             if not any(re.search(r"Cases|/Run$", f) for f in fell):
                 loose += 1
-                print(f"{what}  [{', '.join(sorted(fell)) or 'nothing fell'}]")
+                print(f"{what}  [{', '.join(sorted(fell)) or 'nothing broke'}]")
         print(f"{len(told)} changes, {loose} that no worked case notices")
     finally:
         shutil.rmtree(copy)

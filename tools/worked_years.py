@@ -2,7 +2,7 @@
 """Input and expected output of the test program worked_years, from document 01 alone (tools/model.py).
 
 Run from the repository's root, it writes crates/worked_years/stdin and crates/worked_years/stdout; it shares nothing with the calculator.
-A line of the input is a letter, and behind a space its words or its numbers, one space between two:
+A line of the input is a letter, then a space and its words or numbers, with single spaces between them:
   T words                          these words are printed
   .                                the printed line ends
   r kind value count reading..     the result of 1 to 3 readings under a factor
@@ -10,13 +10,13 @@ A line of the input is a letter, and behind a space its words or its numbers, on
   n period                         how many engines the period needs
   c volume                         one percent of the volume
   S volume days hcnox co kind value kind value
-                                   a year begins with this setup (HC+NOx first); out of range: "no year", and the year before goes on
-  E number readings hcnox co       an engine with its results; like the next three it is entered where it can be, and prints nothing
+                                   a year begins with this setup (HC+NOx first); if it is out of range, "no year" is printed and the year before goes on
+  E number readings hcnox co       an engine with its results; like the next three, it is entered if it can be, and prints nothing
   A hcnox co                       an amendment
   P                                the next period
   X                                the declaration
-  F resolution                     a line: events entered, n, verdict, the figures of HC+NOx and of CO, and those worked anew at the resolution. Figures are S, s, e,
-                                   both C, both H, N in tenths, mark
+  F resolution                     prints a line: events entered, n, verdict, the figures of HC+NOx and of CO, and the same computed anew at the resolution.
+                                   Figures are S, s, e, both C, both H, N in tenths, mark
 """
 from model import A, D, E, K, P, Pollutant, Year, needed, period_count, result_of, round_even, self_check, setup_ok
 
@@ -65,7 +65,7 @@ class Sheet:
         self.output += ' '.join(map(str, numbers)) + '\n'
 
     def year(self, setup, events, resolution, each=True):
-        """The line before the first event and after each, or only after the last."""
+        """Prints the figures before the first event and after each event, or only after the last."""
         year = self.setup(*setup)
         finer = Pollutant(resolution), Pollutant(resolution)
         if each:
@@ -106,7 +106,7 @@ def small_rules(sheet):
 
 
 def engines(*hcnox):
-    """Engines 1, 2, .. of one reading, with these results for HC+NOx."""
+    """Engines 1, 2, .. with one reading each and these results for HC+NOx."""
     return [E(number + 1, 1, x, 5000) for number, x in enumerate(hcnox)]
 
 
@@ -125,9 +125,9 @@ def document_years(sheet):
 
 def other_years(sheet):
     """Marks '-', '?', 'O' (verdict 5, which finer work settles); N exactly 4 at n = 4, which is no stop; one percent of 150 is 2 (verdict 4); a deviation that is
-    exact, and the next period where there is none. Then amendments and periods, and events that could not be entered: a period while short, a number twice, a
+    exact, and a next period in the last one. Then amendments and periods, and events that could not be entered: a period while short, a number twice, a
     standard that is no multiple of ten, no reading, a result above 20,000, number 0. Then setups that are out of range; and sixty-five amendments and a declaration,
-    of which only sixty-four have a place."""
+    of which only the first sixty-four fit."""
     sheet.title('undecided')
     sheet.year((5000, 800, 6100), engines(998, 1071, 926), 8 * K)
     sheet.title('at N')
@@ -147,8 +147,8 @@ def other_years(sheet):
 
 
 def largest_years(sheet):
-    """Forty-one engines of three readings at 0 and 20,000 by turns, CO the other way round. Under 20,000 the last has no place; under 10 the year fails at the ninth,
-    and no more are entered. Then thirty-eight under 20,000, an amendment to 10 for both in the place of the next, and the last two."""
+    """Forty-one engines of three readings, with results 0 and 20,000 by turns, CO the other way round. Under a standard of 20,000 the last does not fit; under 10
+    the year fails at the ninth, and no more are entered. Then thirty-eight under 20,000, an amendment of both to 10 in place of the next, and the last two."""
     turns = [E(i + 1, 3, 20000 * (i % 2), 20000 - 20000 * (i % 2)) for i in range(41)]
     sheet.title('largest')
     sheet.year((99999999, 20000, 20000), turns, 8 * K)

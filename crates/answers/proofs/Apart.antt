@@ -1,4 +1,4 @@
--- A sample size in tenths is at least 10, so 0 tells that there is none.
+-- A sample size in tenths is at least 10, so 0 means that there is none.
 use mathlib.Core.Path.{_≡_, refl, sym, ap}
 use mathlib.Core.Bool.{Bool, true, false}
 use mathlib.Core.List.{[], _∷_}

@@ -21,7 +21,7 @@ fronted : (a b : ℕ) (numbers : List ℕ) → 2 ≤ length numbers → set (set
 unfolding put
 fronted a b numbers h = sets-eq (a ∷ b ∷ []) numbers 0 (omega arith)
 
--- two parts of nine, one after the other, behind two numbers
+-- two parts of nine numbers each, one after the other, behind the first two numbers
 module _ (numbers first second : List ℕ) (room : 20 ≤ length numbers) (nine : length first ≡ 9) (other : length second ≡ 9) where
   both-put : putMid 11 (20 - 11) (putMid 2 (11 - 2) numbers first) second ≡ put numbers 2 (first ++ second)
   both-put =
@@ -38,7 +38,7 @@ module _ (numbers first second : List ℕ) (room : 20 ≤ length numbers) (nine 
   all-put a b =
       rw both-put (fronted a b (put numbers 2 (first ++ second)) (omega (arith, ap length both-put, both-long)) ∙ put-front numbers (a ∷ b ∷ []) (first ++ second) (omega arith))
 
--- of a status, where the parts are its pollutants
+-- these are a status's numbers, if the two parts are those of its pollutants
 pub are-status : (s : Status) (first second : List ℕ) → first ≡ pollutantNumbers (s .hcnox) → second ≡ pollutantNumbers (s .co)
     → (s .n ∷ s .verdict ∷ []) ++ first ++ second ≡ statusNumbers s
 unfolding statusNumbers

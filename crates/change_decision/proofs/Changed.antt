@@ -1,4 +1,4 @@
--- The decision on a change, on the year that a scan has told.
+-- The decision on a change, on the year that a scan found.
 use mathlib.Core.Path.{_≡_}
 use mathlib.Core.Bool.{_||_}
 use mathlib.Core.List.{List}

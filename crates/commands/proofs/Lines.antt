@@ -1,4 +1,4 @@
--- From what is read of a line to the command that it is.
+-- From what is read of a line to its command.
 use mathlib.Core.Path.{_≡_, refl, sym, ap, _∙_}
 use mathlib.Core.Bool.{Bool, true, false, true≢false}
 use mathlib.Core.List.{List, [], _∷_}
@@ -22,7 +22,7 @@ abbrev isCount : Numbers → Bool
 isCount (Count n) = true
 isCount (Refused number) = false
 
--- what was read, by the two cases of its answer
+-- case split on the answer: numbers were read, or the line is refused
 read-some : (read : Option (List ℕ)) (numbers : Numbers) (count : ℕ) (values : List ℕ) → numbers ≡ counted read → numbers ≡ Count count
     → take (numbersOutcomeOf numbers .count) values ≡ listed read → read ≡ some (take count values)
 read-some (some vs) numbers count values e k t = ap some (sym t ∙ rw k)
@@ -32,7 +32,7 @@ read-none : (read : Option (List ℕ)) (numbers : Numbers) (number : ℕ) → nu
 read-none (some vs) numbers number e k = absurd (true≢false (ap isCount (sym e ∙ k)))
 read-none none numbers number e k = (refl, ap (λ n. numbersOutcomeOf n .refusal) (sym k ∙ e))
 
--- the command of a line that is done
+-- carrying out the command of a line does what the line does
 pub by-line : (line journal out left after : List ℕ) (r : ℕ) (command : Command) → command ≡ commandOf line
     → Replied out (commandReply command journal) after r × (left ≡ commandAfter command journal) → Replied out (replyTo line journal) after r × (left ≡ journalAfterLine line journal)
 unfolding replyTo journalAfterLine
@@ -59,18 +59,18 @@ module _ (line : List ℕ) where
         let none = read-none read numbers number e k in
         ap Refuse (none .1) ∙ sym (short ∙ ap (λ o. asked (callFrom (getD line 0 0) o)) (none .0))
 
-  -- a longer one
+  -- a longer line
   pub long-line : 64 < length line → Refuse 1 ≡ commandOf line
   unfolding commandOf
   long-line h = rw (lt-ltb 64 (length line) h)
 
--- and one of none
+-- an empty line
 pub empty-line : (line : List ℕ) → length line ≡ 0 → Refuse 2 ≡ commandOf line
 unfolding commandOf numbersFrom
 empty-line [] e = refl
 empty-line (b ∷ bs) e = absurd (omega (arith, e))
 
--- a reply and the journal after it, in the words of the promise
+-- a reply and the journal after it, in the form that the contract promises
 pub promised : {bytes wanted out left after : List ℕ} {r : ℕ} → length out ≡ 96 → Replied out bytes after r × (left ≡ wanted)
     → (r ≡ length bytes) × ((after ≡ put out 0 bytes) × ((left ≡ wanted) × ((r < 96) × (length after ≡ 96))))
 promised {bytes} {wanted} {out} room (w, j) =

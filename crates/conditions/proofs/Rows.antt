@@ -1,4 +1,4 @@
--- "The first that applies": the number taken is that of a row that applies where none before it does, and of no other; and 0 exactly if none applies.
+-- "The first that applies": `first` gives r exactly if r is the number of a row that applies with no applying row before it, and 0 exactly if no row applies.
 use mathlib.Core.Path.{_≡_, refl}
 use mathlib.Core.Logic.{_⊎_, inl, inr}
 use mathlib.Core.Bool.{Bool, true, false, cond}
@@ -10,7 +10,7 @@ use lib.Dec.{eqb}
 use Rattle.conditions.specs.Rows.{Row, first, applies, FirstApplies, NoneApplies, Numbered}
 use Rattle.conditions.proofs.Tests.{by-test}
 
--- what a row that applies gives, and one that does not
+-- a row that applies gives its own number; one that does not passes on to the rows after it
 taken : (t : Bool) (x y : ℕ) → t ≡ true → cond t x y ≡ x
 taken t x y h = rw h
 
@@ -26,12 +26,12 @@ pub none-is : (rows : List Row) (d : ℕ) → NoneApplies rows → first rows d 
 none-is [] d h = refl
 none-is (row ∷ rows) d h = rw (passed (row .0) (row .1) (first rows d) (h .0)) (none-is rows d (h .1))
 
--- where no row applies, the row of any number does not
+-- if no row applies, the row with number r does not
 pub none-applies : (rows : List Row) (r : ℕ) → NoneApplies rows → applies rows r ≡ false
 none-applies [] r h = refl
 none-applies (row ∷ rows) r h = by-test (λ t. t ≡ false) (eqb (row .1) r) (row .0) (applies rows r) (λ _. h .0) (λ _. none-applies rows r (h .1))
 
--- a number above 0 is that of the first row that applies
+-- if `first` gives a number above 0, it is that of the first row that applies
 first-step : (t : Bool) (x y r : ℕ) {P : Type 0} → (y ≡ r → P) → cond t x y ≡ r → ((t ≡ true) × (x ≡ r)) ⊎ ((t ≡ false) × P)
 first-step true x y r f h = inl (refl, h)
 first-step false x y r f h = inr (refl, f h)
@@ -40,7 +40,7 @@ pub first-applies : (rows : List Row) (r : ℕ) → 0 < r → first rows 0 ≡ r
 first-applies [] r p h = omega arith
 first-applies (row ∷ rows) r p h = first-step (row .0) (row .1) (first rows 0) r (first-applies rows r p) h
 
--- with every number above 0, 0 says that none applies
+-- if every row's number is above 0, `first` gives 0 only if no row applies
 none-step : (t : Bool) (x y : ℕ) {P : Type 0} → 0 < x → (y ≡ 0 → P) → cond t x y ≡ 0 → (t ≡ false) × P
 none-step true x y p f h = absurd (omega arith)
 none-step false x y p f h = (refl, f h)
@@ -49,7 +49,7 @@ pub first-none : (rows : List Row) → Numbered rows → first rows 0 ≡ 0 → 
 first-none [] n h = tt
 first-none (row ∷ rows) n h = none-step (row .0) (row .1) (first rows 0) (n .0) (first-none rows (n .1)) h
 
--- a table whose last word is another: a row that applies says the same, and where none does the other word is taken
+-- with default d instead of 0: if some row applies the number taken is the same, and if none does it is d
 pub first-kept : (rows : List Row) (d : ℕ) → (first rows 0 ≡ 0 → ⊥) → first rows d ≡ first rows 0
 first-kept rows d h = first-is rows (first rows 0) d (first-applies rows (first rows 0) (pos-of-ne-zero h) refl)
 

@@ -1,4 +1,4 @@
--- Facts of tests: `cond`, `&&`, `||`, `not`, and of two numbers.
+-- Lemmas about Boolean tests (`cond`, `&&`, `||`, `not`) and comparisons of two numbers.
 use mathlib.Core.Path.{_≡_, refl, sym}
 use mathlib.Core.Bool.{Bool, true, false, cond, not, _&&_, _||_, true≢false, and-eq-true-iff}
 use Prim.Native.Nat.{ℕ, _<_}
@@ -7,12 +7,12 @@ use native.Mathlib.Decide.{decLt}
 use lib.Dec.{leb, ltb, eqb}
 use borrow.Author.Tests.{lt-ltb, le-ltb, le-leb, lt-leb, eq-eqb, ne-eqb, eqb-true, eqb-false}
 
--- to prove a fact of `cond b x y`, prove it of x where b is true and of y where b is false
+-- case split on b: to prove a fact of `cond b x y`, prove it of x if b is true and of y if b is false
 pub by-test {ℓ} : {A : Type 0} (P : A → Type ℓ) (b : Bool) (x y : A) → (b ≡ true → P x) → (b ≡ false → P y) → P (cond b x y)
 by-test P true x y f g = f refl
 by-test P false x y f g = g refl
 
--- either way the same
+-- both branches are the same
 pub cond-same : {A : Type 0} (b : Bool) (x : A) → cond b x x ≡ x
 cond-same true x = refl
 cond-same false x = refl
@@ -21,12 +21,12 @@ cond-same false x = refl
 pub and-true : {a b : Bool} → a ≡ true → b ≡ true → (a && b) ≡ true
 and-true {a} {b} h k = and-eq-true-iff a b .1 (h, k)
 
--- both parts of a disjunction that fails
+-- if a disjunction is false, both its parts are
 pub or-false : (a b : Bool) → (a || b) ≡ false → (a ≡ false) × (b ≡ false)
 or-false true b h = absurd (true≢false h)
 or-false false b h = (refl, h)
 
--- what follows from each of two tests follows where at least one holds
+-- what follows from each of two tests follows from their disjunction
 pub either-true : (a : Bool) {b : Bool} {P : Type 0} → (a ≡ true → P) → (b ≡ true → P) → (a || b) ≡ true → P
 either-true true f g h = f refl
 either-true false f g h = g h
@@ -38,7 +38,7 @@ pub not-false : (a : Bool) → not a ≡ false → a ≡ true
 not-false true h = refl
 not-false false h = absurd (true≢false h)
 
--- below is not at least
+-- a < b is the negation of b ≤ a
 pub ltb-not-leb : (a b : ℕ) → ltb a b ≡ not (leb b a)
 ltb-not-leb a b = by (decLt a b)
   where

@@ -1,4 +1,4 @@
--- Bytes of a line held, a reply with its newline, and the end of the input.
+-- Holding the bytes of a line, a reply with its newline, and the end of the input.
 use mathlib.Core.Path.{_≡_, refl, sym, _∙_}
 use mathlib.Core.Bool.{Bool, true, false}
 use mathlib.Core.List.{List, [], _∷_, _++_}
@@ -16,7 +16,7 @@ use Rattle.protocol.specs.Console.{shownAtEnd, journalAtEnd}
 use Rattle.protocol.specs.Reply.{replyTo, journalAfterLine}
 use Rattle.console.specs.Keys.{Shown}
 
--- no more is held than the buffer has
+-- at most as many bytes are held as the buffer has
 pub held-front : (buffer : List ℕ) (held : ℕ) → take (min held (length buffer)) buffer ≡ take held buffer
 held-front buffer held = by (leb (length buffer) held) refl
   where
@@ -41,7 +41,7 @@ with-newline reply out after r size written inside =
       fits = counts (r + 1) (set after r 10) (omega (arith, length-set after r 10, inside));
     }
 
--- at the end of the input a line of some bytes is answered
+-- at the end of the input, a line of at least one byte is answered
 module _ (journal : List ℕ) where
   pub some-end : (line : List ℕ) → (length line ≡ 0 → ⊥)
       → (shownAtEnd line journal ≡ replyTo line journal ++ (byte "\n" ∷ [])) × (journalAtEnd line journal ≡ journalAfterLine line journal)

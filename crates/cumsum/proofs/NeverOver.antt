@@ -38,7 +38,7 @@ module _ (k : ℕ) where
       let w = cumsum-width k (x ∷ y ∷ h) in
       compared-under (cumsum k (x ∷ y ∷ h)) (actionLimit k (x ∷ y ∷ h)) (omega arith) (omega arith)
 
-  -- a test of two consecutive marks that no 'U' passes
+  -- a test of two consecutive marks that fails if the newer is 'U' never passes
   never : (test : Mark → Mark → Bool) → ((m : Mark) → test Under m ≡ false) → (h : List Test) → atStandard h ≡ true → consecutive test (marks k h) ≡ false
   never test fails [] all = refl
   never test fails (x ∷ []) all = refl

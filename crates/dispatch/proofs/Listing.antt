@@ -1,4 +1,4 @@
--- The marks call on a part of the output, as the reply with the marks.
+-- The marks call on a part of the output gives the reply with the marks.
 use mathlib.Core.Path.{_≡_, ap, _∙_}
 use mathlib.Core.Logic.{_≢_}
 use mathlib.Core.List.{List}
@@ -32,7 +32,7 @@ module _ (journal out : List ℕ) (room : 96 ≤ length out) where
   abbrev marks : List ℕ
   marks = outBytes Marks (readJournal journal)
 
-  -- the output once the part is back
+  -- the output once the part is handed back
   abbrev back : List ℕ
   back = putMid 3 80 out (outAfter Marks journal part)
 

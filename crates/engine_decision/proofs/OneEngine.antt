@@ -1,4 +1,4 @@
--- The rows of an engine: before its results are worked, and after; and the whole table of an engine from the common rows and these.
+-- An engine's own rows: those tested before its results are computed, and those after; and its whole table, made of the shared rows and these.
 use mathlib.Core.Path.{_≡_, sym, ap, _∙_}
 use mathlib.Core.Bool.{false, not, _&&_, and-eq-true-iff}
 use mathlib.Core.List.{List}
@@ -33,13 +33,13 @@ module _ (number : ℕ) (readings : Readings) (p : Progress) where
   pub asked-numbered : Numbered (askedRows number readings p)
   asked-numbered = omega arith
 
-  -- one of 10, 11 and 12 applies
+  -- if one of 10, 11 and 12 applies, the engine is refused by it
   pub asked-refused : (r : ℕ) → r ≡ first (askedRows number readings p) 0 → (r ≡ 0 → ⊥) → Refuse r ≡ engineDecision number readings p
   asked-refused r =
       let results = resultsOf (p .setup) readings in
       refused-by (askedRows number readings p) (first (workedRows (results .hcnox) (results .co) (length (p .tested))) 0) (eventOf p (EnterEngine number readings)) r
 
-  -- its readings fit where none applies
+  -- if none of them applies, the counts of its readings fit
   pub asked-counts : first (askedRows number readings p) 0 ≡ 0
       → (length (readings .hcnox) ≡ length (readings .co)) × (1 ≤ length (readings .hcnox)) × (length (readings .hcnox) ≤ 3)
   asked-counts h =
@@ -58,7 +58,7 @@ module _ (hcnox co count : ℕ) where
       let parts = and-eq-true-iff (resultInRange hcnox) (resultInRange co) .0 fit in
       (leb-true hcnox 20000 (parts .0), leb-true co 20000 (parts .1))
 
--- on a year, once its results are worked
+-- on a year, once the engine's results are computed
 module _ (number : ℕ) (readings : Readings) (p : Progress) (asked : first (askedRows number readings p) 0 ≡ 0) (hcnox co count : ℕ)
     (h : hcnox ≡ resultsOf (p .setup) readings .hcnox) (o : co ≡ resultsOf (p .setup) readings .co) (n : count ≡ length (p .tested)) where
   abbrev added : Event
@@ -73,7 +73,7 @@ module _ (number : ℕ) (readings : Readings) (p : Progress) (asked : first (ask
   pub results-added : first (workedRows hcnox co count) 0 ≡ 0 → Add added ≡ engineDecision number readings p
   results-added z = ap (λ r. decision r added) (sym z) ∙ by-results
 
--- the whole table, on the year that a scan has told
+-- the whole table, on the year that a scan found
 module _ (journal : List ℕ) (scanned : Scanned) (t : ScannedAs scanned (readJournal journal)) where
   pub engine-decided : (number : ℕ) (readings : Readings) → first (entryRows false journal) 0 ≡ 0
       → engineDecision number readings (progressOf (scanned .progress)) ≡ decisionOn (EnterEngine number readings) journal

@@ -1,4 +1,4 @@
--- Laws of the arrays of tested engines: how many engines they say, one pollutant's part, an earlier part, one engine more.
+-- Laws of the arrays of tested engines: how many engines they hold, one pollutant's arrays, an earlier part, one more engine.
 use mathlib.Core.Path.{_≡_, refl, sym, ap, _∙_}
 use mathlib.Core.Bool.{Bool, false, _||_}
 use mathlib.Core.List.{List, _∷_}
@@ -29,13 +29,13 @@ pub tested-length : (e : Engines) (n : ℕ) → length (testedTo e n) ≡ n
 tested-length e zero = refl
 tested-length e (suc n) = ap suc (tested-length e n)
 
--- a pollutant's arrays say its history
+-- a pollutant's arrays give its history
 pub tested-history : (q : Pollutant) (e : Engines) (n : ℕ) → history q (testedTo e n) ≡ testsTo (resultColumn q e) (standardColumn q e) n
 tested-history q e zero = refl
 tested-history Hcnox e (suc n) = ap (λ (h : List Test). record { result = getD (e .«hcnox_results») n 0; standard = getD (e .«hcnox_standards») n 0 } ∷ h) (tested-history Hcnox e n)
 tested-history Co e (suc n) = ap (λ (h : List Test). record { result = getD (e .«co_results») n 0; standard = getD (e .«co_standards») n 0 } ∷ h) (tested-history Co e n)
 
--- ranges hold of every earlier part
+-- if the first n tests are in range, so are the first i, for i ≤ n
 pub tests-before : (xs ts : List ℕ) (n i : ℕ) → i ≤ n → TestsInRange (testsTo xs ts n) → TestsInRange (testsTo xs ts i)
 tests-before xs ts zero zero h r = r
 tests-before xs ts zero (suc i) h r = absurd (omega arith)
@@ -44,12 +44,12 @@ tests-before xs ts (suc n) i h r = ⊎-elim (λ l. tests-before xs ts n i l (r .
 joined : {x y : Tested} {xs ys : List Tested} → x ≡ y → xs ≡ ys → x ∷ xs ≡ y ∷ ys
 joined p q = rw (p, q)
 
--- each number of one engine more is narrow enough for its array
+-- each number of a new engine is small enough for its array
 pub narrow : {e : Engines} {n d : ℕ} {xs ts : Pair} → EngineInRange e n xs ts d
     → (e .count < 40) × (n ≤ 65535) × (d ≤ 4) × (xs .hcnox ≤ 20000) × (xs .co ≤ 20000) × (ts .hcnox ≤ 20000) × (ts .co ≤ 20000)
 narrow r = (r .place, r .number, r .period, r .results Hcnox, r .results Co, r .standards Hcnox, r .standards Co)
 
--- one engine more at the next place: the engines before it are kept
+-- one more engine, stored at the next place: the engines before it are kept
 module _ (e : Engines) (number period : ℕ) (results standards : Pair) where
   abbrev pub with-engine : Engines
   with-engine =
@@ -92,7 +92,7 @@ module _ (e : Engines) (number period : ℕ) (results standards : Pair) where
   tested-next h s =
       ap (λ (n : ℕ). testedTo with-engine n) (add-one (e .count)) ∙ joined (new-at h s) (kept (e .count) (omega arith))
 
-  -- a place written leaves the size
+  -- writing a place leaves the size of each array unchanged
   pub with-engine-sized : Sized e → Sized with-engine
   with-engine-sized s = record { numbers = rw length-set (s .numbers); periods = rw length-set (s .periods); results = results-kept; standards = standards-kept }
     where
@@ -104,7 +104,7 @@ module _ (e : Engines) (number period : ℕ) (results standards : Pair) where
       standards-kept Hcnox = rw length-set (s .standards Hcnox)
       standards-kept Co = rw length-set (s .standards Co)
 
--- whether a number is among the first so many of a list
+-- whether a number is among the first i of a list
 abbrev pub among : List ℕ → ℕ → ℕ → Bool
 among numbers number zero = false
 among numbers number (suc i) = eqb (getD numbers i 0) number || among numbers number i
@@ -113,7 +113,7 @@ pub tested-among : (e : Engines) (number i : ℕ) → isTested number (testedTo 
 tested-among e number zero = refl
 tested-among e number (suc i) = ap (λ (b : Bool). eqb (getD (e .numbers) i 0) number || b) (tested-among e number i)
 
--- of engines in range, each pollutant's arrays are; and the figures worked from them are those of its history
+-- if the engines are in range, so are each pollutant's arrays; and the figures computed from them are those of its history
 module _ (q : Pollutant) (e : Engines) (k : ℕ) where
   pub columns-fit : EnginesInRange e k → ColumnsInRange (resultColumn q e) (standardColumn q e) (e .count) k
   columns-fit r = record { history = rw (← tested-history q e (e .count)) (r .histories q); fine = r .fine }
@@ -121,7 +121,7 @@ module _ (q : Pollutant) (e : Engines) (k : ℕ) where
   pub reworked : (f : Running) → f ≡ running k (testsTo (resultColumn q e) (standardColumn q e) (e .count)) → f ≡ running k (history q (tested e))
   reworked f w = w ∙ ap (running k) (sym (tested-history q e (e .count)))
 
--- figures worked from the arrays: how many engines there are, the ranges of an earlier part, and the room for the newest engine
+-- figures computed from the arrays: there are at most 40 engines, an earlier part is in range too, and the newest engine fits
 module _ (xs ts : List ℕ) (k : ℕ) where
   pub columns-few : (n : ℕ) → ColumnsInRange xs ts n k → n ≤ 40
   columns-few n r = omega (arith, r .history .few, tests-length xs ts n)

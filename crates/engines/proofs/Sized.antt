@@ -1,4 +1,4 @@
--- An array of the struct has its 40 places, and an engine number is below 65,536: what the type of a parameter says of it.
+-- Each array of the struct has 40 places, and an engine number is below 65,536: facts that follow from a parameter's type.
 use mathlib.Core.Path.{_≡_, sym, _∙_}
 use mathlib.Core.List.{List, [], _∷_, map}
 use Prim.Native.Nat.{ℕ, zero, suc, _<_}

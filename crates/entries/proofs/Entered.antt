@@ -1,4 +1,4 @@
--- What is done with the decision on an entry is what the definitions say of the entry on the journal, and can be done.
+-- The decision on an entry can be carried out, and doing so gives the answer and the journal that the definitions give for the entry.
 use mathlib.Core.Path.{_≡_, refl, sym, ap, _∙_}
 use mathlib.Core.List.{List}
 use Prim.Native.Nat.{ℕ}
@@ -33,7 +33,7 @@ module _ (entry : Entry) (journal : List ℕ) (scanned : Scanned) (t : ScannedAs
   abbrev event : Event
   event = eventOf (replayed (readJournal journal)) entry
 
-  -- an entry is accepted, on a year, or refused
+  -- case split on the decision: the entry is accepted, and the journal holds a year; or it is refused
   by-decision : (P : Decision → Type 0) → ((s : Setup) (es : List Event) → readJournal journal ≡ Year s es → number ≡ 0 → P (Add event))
       → ((number ≡ 0 → ⊥) → P (Refuse number)) → P (decisionOn entry journal)
   by-decision P f g = by-test P (eqb number 0) (Add event) (Refuse number) (λ e. accepted (eqb-true number 0 e)) (λ e. g (eqb-false number 0 e))
@@ -74,7 +74,7 @@ module _ (entry : Entry) (journal : List ℕ) (scanned : Scanned) (t : ScannedAs
   entered-journal =
       by-decision (λ d. journalWith d journal ≡ journalAfter (Enter entry) journal) added-journal (λ f. sym (demand-1 .refusedJournal (Enter entry) journal f))
 
-  -- what a call that enters promises
+  -- what a call that makes an entry promises
   pub entered : (d : Decision) → d ≡ decisionOn entry journal → (r : Answer) (left : List ℕ) → r ≡ answerTo d (progressOf (scanned .progress)) → left ≡ journalWith d journal
       → Promised (Enter entry) journal r left
   entered d e r left a j = promised (Enter entry) journal r left (rw e at a ∙ entered-answer) (rw e at j ∙ entered-journal)

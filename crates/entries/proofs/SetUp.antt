@@ -1,4 +1,4 @@
--- What setup promises where it is accepted, from what its body has worked.
+-- What setup promises if it is accepted, from what its body has computed.
 use mathlib.Core.Path.{_≡_, sym, _∙_}
 use mathlib.Core.Bool.{true}
 use mathlib.Core.List.{List, []}

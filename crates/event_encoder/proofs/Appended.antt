@@ -1,4 +1,4 @@
--- One event more: a slot that was lent and filled, and then byte 24.
+-- One more event: a lent slot is filled, and then byte 24 is written.
 use mathlib.Core.Path.{_≡_}
 use mathlib.Core.List.{List}
 use Prim.Native.Nat.{ℕ, _+_, _-_, _≤_, _<_}

@@ -1,4 +1,4 @@
--- Every reply has two bytes or more, and no refusal is above the largest of the table: so 0 and 255 tell of a slice that is too short, and of nothing else.
+-- Every reply has at least two bytes, and no refusal is above the largest of the table; so 0 and 255 mean that a slice is too short, and nothing else.
 use mathlib.Core.Path.{_≡_}
 use mathlib.Core.List.{List, [], _∷_}
 use Prim.Native.Nat.{ℕ, _≤_, _<_}
@@ -58,7 +58,7 @@ reply-long line journal = command-long (commandOf line) journal
 abbrev largest : ℕ
 largest = 16
 
--- every number of a table is at most so much, and so is the one that is taken
+-- if every number of a table is at most `most`, so is the number that is taken
 abbrev UpTo : ℕ → List Row → Type 0
 UpTo most [] = Unit {0}
 UpTo most (row ∷ rows) = (row .1 ≤ most) × UpTo most rows
@@ -77,7 +77,7 @@ refusal-up-to call journal = first-up-to largest (refusals (length journal) call
 
 -- ---- both
 
--- what is never answered of a slice with room tells one that is too short
+-- an answer that no slice with room gets shows that the slice is too short
 apart : (size : ℕ) (lent : List ℕ) (short long : ℕ) → (long ≡ short → ⊥) → ifShort size lent short long ≡ short → length lent < size
 apart size lent short long f e = by (decLt (length lent) size)
   where

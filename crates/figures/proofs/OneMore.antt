@@ -1,4 +1,4 @@
--- The running figures of one pollutant: before engine 2, with one engine more, the room that one engine more needs, and that of a sample size.
+-- The running figures of one pollutant: before engine 2, with one more engine, and the ranges in which one more engine and a sample size fit.
 use mathlib.Core.Path.{_≡_, ap}
 use mathlib.Core.Bool.{false, _||_}
 use mathlib.Core.List.{List, [], _∷_}
@@ -53,7 +53,7 @@ module _ (k : ℕ) where
   early s t (x ∷ []) few es et = rw (es, et, deviation-early k (x ∷ []) few)
   early s t (x ∷ y ∷ h) few es et = absurd (omega arith)
 
-  -- from engine 2 on: each figure from the one before it
+  -- from engine 2 on: each figure is computed from the one before it
   pub later : (f : Running) (x : Test) (s : Sums) (d : Deviation) (c l : Interval) (m : Mark) (h : List Test)
       → f ≡ running k h → s ≡ sums (x ∷ h) → 2 ≤ s .n → d ≡ deviation k (s .n) (s .variation)
       → c ≡ nextCumsum k x d (f .cumsum) → l ≡ limitOf d → m ≡ compared c l
@@ -71,7 +71,7 @@ module _ (k : ℕ) where
   later f x s d c l m [] ef es two ed ec el em = absurd (omega (arith, ap (λ (z : Sums). z .n) es))
   later f x s d c l m (y ∷ h) ef es two ed ec el em = rw (em, el, ec, ed, es, ef)
 
--- C is at most what 20,000 at every engine would add
+-- C is at most what a result of 20,000 at every engine would add
 cumsum-le : (k : ℕ) (h : List Test) → TestsInRange h → cumsum k h .high ≤ length h * (4 * k * 20000)
 cumsum-le k [] r = omega arith
 cumsum-le k (x ∷ []) r = omega arith
@@ -108,7 +108,7 @@ module _ (k : ℕ) (f : Running) (x : ℕ) (r : RunningInRange k f x) where
             record { before = omega arith; fine = r .fine; off = omega (arith, limit-fits) },
           )
 
--- the ranges of a sample size are met by the figures of every history in range
+-- the figures of every history in range meet the range conditions of a sample size
 newest-le : (h : List Test) → TestsInRange h → newestStandard h ≤ 20000
 newest-le [] r = omega arith
 newest-le (x ∷ h) r = r .1

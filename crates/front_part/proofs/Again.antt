@@ -1,7 +1,7 @@
--- A `&κ mut [T]` that is lent again for the lifetime κ′ of a call, and comes back.
+-- A `&κ mut [T]` is reborrowed for the lifetime κ′ of a call, and comes back.
 --     LentAgain        what its holder keeps meanwhile: the lender's part at κ′, under the name γ₁, and its own borrow at κ, open, with both halves of its name
 --     lends-again      the slice and the token of κ become the slice at κ′, under some name γ₁, and `LentAgain`
---     comes-back       once κ′ is over, and the slice under γ₁ has ended at zs, as many as before, the holder has the slice at κ again, at zs, and the token
+--     comes-back       once κ′ is over and the slice under γ₁ has ended at zs, of the same length, the holder has the slice at κ again, at zs, and the token
 use mathlib.Core.Path.{_≡_, sym, ap, subst}
 use Prim.Native.Nat.{ℕ}
 use mathlib.Core.List.{List, [], _∷_}

@@ -1,6 +1,6 @@
 -- The form of a call that hands back the front part of a lent buffer. Its code is
 --       let end = write(journal, out, refusal);  &mut out[..end]
--- where `write` does the work, and tells where the part ends and whether the call is refused. `HandsBack.antt` proves it once for every call of this form.
+-- where `write` does the work, and reports where the part ends and whether the call is refused. `HandsBack.antt` proves it once for every call of this form.
 use mathlib.Core.Path.{_≡_}
 use Prim.Native.Nat.{ℕ}
 use mathlib.Core.List.{List, [], _∷_}
@@ -19,15 +19,15 @@ use denote.Slice.{sliceTy}
 use denote.Triple.Clauses.{Ended, Clauses}
 use Rattle.front_part.specs.Lender.{LenderFinds}
 
--- what such a call does, of the journal and the buffer on entry
+-- what such a call does, as functions of the journal and the buffer on entry
 pub record Output : Type 1 where
   -- the part, every byte of the buffer afterwards, and the refusal
   pub partOf : List ℕ → List ℕ → List ℕ
   pub afterOf : List ℕ → List ℕ → List ℕ
   pub refusalOf : List ℕ → List ℕ → ℕ
-  -- the part is the buffer's front
+  -- the part is the front of the buffer afterwards
   pub front : (journal buffer : List ℕ) → take (length (partOf journal buffer)) (afterOf journal buffer) ≡ partOf journal buffer
-  -- what `write` promises of the two numbers that it tells, and that they are the part's end and the refusal
+  -- what `write` promises about the two numbers that it reports, and that these are the part's end and the refusal
   pub Answers : List ℕ → List ℕ → ℕ → ℕ → Type 0
   pub end : (journal buffer : List ℕ) (end refusal : ℕ) → Answers journal buffer end refusal → end ≡ length (partOf journal buffer)
   pub refusal : (journal buffer : List ℕ) (end refusal : ℕ) → Answers journal buffer end refusal → refusal ≡ refusalOf journal buffer
@@ -42,7 +42,7 @@ buffer = mutSliceOf (1 ∷ []) tt (plain (λ _. u8))
 abbrev refused : Slot 3
 refused = mutRefTo (2 ∷ []) tt (plain (λ _. u8))
 
--- the signatures of `write` and of the call, whose result is of the buffer's lifetime, so that the buffer is not kept
+-- the signatures of `write` and of the call; the call's result has the buffer's lifetime, so the buffer is not among the parameters that are kept
 abbrev signed : Slot 3 → Signature
 signed result = record { lifetimes = 3; outlives = []; params = journal ∷ buffer ∷ refused ∷ []; result = result }
 

@@ -1,9 +1,9 @@
--- The front part of a lent slice goes to the caller for as long as the slice is lent, and what the slice ends as is kept.
--- The slice's ghost name is set to placeholders for the part's elements and then the rest as it is, and ends there. The slice's borrow is cut in two: the part's, and
--- one that holds the rest, the placeholders' names and the slice's. When the lifetime is over the two make up the slice again, the placeholders being made of what the
--- part's places hold by then (`Places.antt`).
---     takes-front      of a slice's name, borrow and token: the front under a name of its own, the token, and how the slice's name ends
---     front-out        the same of what a `&κ mut [T]` owns
+-- The front part of a lent slice goes to the caller for as long as the slice is lent, and what the slice ends as is recorded.
+-- The slice's ghost name is set to placeholders for the part's elements, followed by the rest unchanged, and ends there. The slice's borrow is split in two:
+-- one for the part, and one that holds the rest, the placeholders' names and the slice's name. When the lifetime is over, the two make up the slice again, with
+-- the placeholders filled with what the part's places hold by then (`Places.antt`).
+--     takes-front      from a slice's name, borrow and token: the front under a name of its own, the token, and how the slice's name ends
+--     front-out        the same for what a `&κ mut [T]` owns
 use mathlib.Core.Path.{_≡_, refl, sym, _∙_, ap}
 use mathlib.Core.List.{List, [], _∷_, _++_, map}
 use Prim.Native.Nat.{ℕ, _+_}
@@ -45,8 +45,8 @@ module _ {M : Type 1} (𝓤 : URA M) (H : Heap 𝓤) (A : Atoms 𝓤) (W : Given
   abbrev Whole : GName → Fml
   Whole γ = Body (Arr (Holey T) n) b o γ
 
-  -- what the two borrows hold that it is cut into: the first k elements, under a name of their own; and the elements behind them, with the placeholders' names and the
-  -- slice's
+  -- what the two borrows that it is split into hold: the first k elements, under a name of their own; and the elements behind them, with the placeholders'
+  -- names and the slice's name
   abbrev Front : GName → ℕ → Fml
   Front γ′ k = Body (Arr (Holey T) k) b o γ′
 
@@ -56,7 +56,7 @@ module _ {M : Type 1} (𝓤 : URA M) (H : Heap 𝓤) (A : Atoms 𝓤) (W : Given
   abbrev Parts : GName → GName → List (X × GName) → List Hl → List Fml
   Parts γ γ′ ps back = Front γ′ (length ps) ∷ Behind γ ps back ∷ []
 
-  -- and how they make up the slice again
+  -- and how the two make up the slice again
   abbrev Back : GName → GName → List (X × GName) → List Hl → Fml
   Back γ γ′ ps back = fwand (fsep (fdead κ) (fseps (Parts γ γ′ ps back))) (fupd (Whole γ))
 
@@ -126,7 +126,7 @@ module _ {M : Type 1} (𝓤 : URA M) (H : Heap 𝓤) (A : Atoms 𝓤) (W : Given
   abbrev value : List (R .Denot) → List Val
   value ys = sliceVal (b, o) (length ys) ∷ []
 
-  -- how the slice's name ends where its first k elements are handed out: something at their places, and then the rest
+  -- how the slice's name ends if its first k elements are handed out: something at their places, and then the rest
   abbrev pub Ends : List (R .Denot) → ℕ → Holeys R → Fml
   Ends xs k lent = fsep (feq ℕ (length lent) (length (take k xs))) (fres γ (codedHoleys R .code (lent ++ heres R (drop-list k xs))))
 

@@ -1,10 +1,10 @@
--- A call that hands back the front part of a lent buffer (`Form.antt`) meets its contract: a walk of its MIR, by hand, one for all such calls. All that the proof
--- knows of `write` is that it meets its contract.
--- The buffer is lent again to `write`, for a lifetime that is made for the call, and comes back at the bytes that `write` left (`Again.antt`). Then its front part
--- goes into the result, and how the buffer ends is kept (`Front.antt`). The journal and the refusal are passed on.
---     exits      from what is had at the end of the code to the contract's promises, `said`, of which `finds` is the one on the bytes behind the part
+-- A call that hands back the front part of a lent buffer (`Form.antt`) meets its contract: a walk through its MIR, by hand, once for all such calls. All that
+-- the proof knows about `write` is that it meets its contract.
+-- The buffer is reborrowed for `write`, for a lifetime made for the call, and comes back with the bytes that `write` left (`Again.antt`). Then its front
+-- part goes into the result, and how the buffer ends is recorded (`Front.antt`). The journal and the refusal are passed on.
+--     exits      from what is held at the end of the code to the contract's promises, `said`, of which `finds` is the one about the bytes behind the part
 --     walk       the code, statement by statement
---     hands      so it meets the contract, over any tables
+--     hands      hence the call meets its contract, over any tables
 use mathlib.Core.Path.{_≡_, refl, sym, _∙_, ap}
 use Prim.Native.Nat.{ℕ, _<_, _^_}
 use mathlib.Core.List.{List, [], _∷_, _++_}
@@ -45,7 +45,7 @@ use Rattle.front_part.proofs.Again.{LentAgain, lends-again, comes-back}
 use Rattle.front_part.proofs.Front.{Ends, Handed, front-out}
 use Rattle.front_part.proofs.Form.{Output, journal, buffer, writing, handing, function, Writes, Hands}
 
--- the journal is given to the callee, the buffer to the result, and of the refusal there is what says its last value
+-- the journal is given to the callee, the buffer to the result, and for the refusal what remains is the statement of its last value
 abbrev stayed : Stays (handing .signature .params) (handing .kept)
 stayed = (stay-dropped journal yes, (stay-dropped buffer no, (gave-ref (2 ∷ []) tt (plain (λ _. u8)), tt)))
 
@@ -96,14 +96,14 @@ module _ (output : Output) {M : Type 1} (𝓤 : URA M) (H : Heap 𝓤) (A : Atom
   abbrev Owns : Lft → GName → Item 𝓤
   Owns ν δ = ‵ (owns (ShrSlice (named 0) κ₀ u8 ∷ MutSlice (named 1) ν u8 ∷ MutRef (named 2) κ₂ u8 ∷ []) (a δ) vals)
 
-  -- what `write`'s triple binds outside: the buffer lent again for the lifetime ν, under the name δ
+  -- the outer variables of `write`'s triple: the buffer reborrowed for the lifetime ν, under the name δ
   abbrev to-write : ℕ → GName → Written output 𝓤 H A .Ghost
   to-write ν δ = ((κs (ν ∷ []), qs fullShare, tt, a δ, vals), tt)
 
   goes : (ν : ℕ) (δ : GName) → ent 𝓤 (⋆ 𝓤 H A (Tokens (ν ∷ []) fullShare ∷ Owns (ν ∷ []) δ ∷ [])) (Written output 𝓤 H A .pre (to-write ν δ))
   goes ν δ = qed W (Tokens (ν ∷ []) fullShare ∷ Owns (ν ∷ []) δ ∷ []) ∵ join ! $ frame ! $ done !
 
-  -- what `write` says of its result r and the refusal z, and of the list that it left
+  -- what `write` ensures about its result r and the refusal z, and about the list that it left
   abbrev Answered : ℕ → ℕ → Type 0
   Answered r z = output .Answers (j .now) ys r z
 
@@ -175,7 +175,7 @@ module _ (output : Output) {M : Type 1} (𝓤 : URA M) (H : Heap 𝓤) (A : Atom
         use1 W (raw (Ensures γ′)) (said γ′ lent) $ frame ! $ frame ! $
         nothing ! $ move ! (0 ∷ 1 ∷ []) $ fjoin ! $ nothing ! $ move ! (0 ∷ 1 ∷ []) $ fjoin ! $ frame ! $ done !
 
-    -- what is had at the end of the code: the buffer at the list that `write` left, the tokens, and the refusal
+    -- what is held at the end of the code: the buffer at the list that `write` left, the tokens, and the refusal
     abbrev Had : List (Item 𝓤)
     Had = ‵ (MutSlice (named 1) κ₁ u8 .own (x γ zs) (s (length ys) ∷ [])) ∷ ‵ (flft κ₁ q₁) ∷ (‵ (flft κ₂ q₂) ⊛ ‵ ftrue) ∷ ‵ (flft κ₀ q₀) ∷ Told ∷ []
 
@@ -203,7 +203,7 @@ module _ (output : Output) {M : Type 1} (𝓤 : URA M) (H : Heap 𝓤) (A : Atom
         (and-then ! (load ! (from ! (fld ! refl (stop !))) (look-in ! 12 (sub ! 1 refl (whole !)))) (no-more !)))) (from ! (stop !))
         (init ! 4 refl (tt, (tt, (record { fits = room .0 }, tt)))) $
         assigns ! (addr ! (from ! (hop ! (look ! 10 refl) (stop !)))) (from ! (stop !)) (init ! 2 refl (tt, tt)) $
-        -- the buffer is lent again, for a lifetime ν of the call
+        -- the buffer is reborrowed, for a lifetime ν of the call
         move ! (19 ∷ []) $ fsplit ! $ move ! (1 ∷ []) $ fsplit ! $ move ! (21 ∷ []) $ split ! $ move ! (1 ∷ []) $ split ! $ lft-new ! tt (λ ν.
         -- [ν; the buffer's token; the refusal's; the journal's; the buffer; what the refusal owns; what the journal owns; _8; …]
         move ! (4 ∷ 1 ∷ []) $
@@ -229,7 +229,7 @@ module _ (output : Output) {M : Type 1} (𝓤 : URA M) (H : Heap 𝓤) (A : Atom
         move ! (2 ∷ []) $ split ! $ move ! (1 ∷ []) $ peeks ! usize (Is usize) (shows 𝓤 H A usize) r (w ∷ []) (λ is.
         land ! (from ! (stop !)) (init ! 13 refl (uint-lawful 𝓤 H A W w64 .typed r _ is .0)) $
         rewrite ! 13 (λ (u : Val). ‵ (fat fullShare (tyInt w64) l₄ 0 u)) (ap only (is .0)) refl $
-        -- the lifetime is ended, and the buffer comes back at that list
+        -- the lifetime ends, and the buffer comes back at that list
         move ! (1 ∷ []) $ split ! $ move ! (1 ∷ []) $ split ! $ lft-end ! tt $
         -- [ν is over; the refusal's token; the journal's; what the result owns; the last list; the refusal; what is kept; _8; …]
         move ! (0 ∷ 6 ∷ 4 ∷ []) $

@@ -1,4 +1,4 @@
--- What `LenderFinds` gives: whoever lent the buffer has it back when the borrow is over, and finds as many bytes as the part has, and then those that were told.
+-- What `LenderFinds` is worth: when the borrow is over, the lender has the buffer back, with as many bytes as the part has, and then those that were promised.
 use mathlib.Core.Path.{_≡_, refl, sym, _∙_, ap}
 use mathlib.Core.List.{List, [], _∷_, _++_}
 use Prim.Native.Nat.{ℕ, _+_}
@@ -26,7 +26,7 @@ use Rattle.front_part.proofs.Places.{some-cells}
 
 -- a buffer of n bytes at (b, o), lent for κ
 module _ {M : Type 1} (𝓤 : URA M) (H : Heap 𝓤) (A : Atoms 𝓤) (W : Given 𝓤 H A) (κ : Lft) (n b o : ℕ) (buffer part : RefT (List ℕ)) (rest : List ℕ) where
-  -- it holds ws, as many as the part had, and then the rest
+  -- it holds ws, as many bytes as the part had, and then the rest
   abbrev Found : List ℕ → SProp 𝓤
   Found ws = sep 𝓤 (fact 𝓤 (length ws ≡ length (part .now))) (sem 𝓤 H A (Arr (mem u8) n .lies (ws ++ rest) b o))
 

@@ -1,7 +1,7 @@
 -- Placeholders (`types.Hole`) for the elements of a part that is handed back. Each stands for one element and has a ghost name of its own; whoever keeps both halves
--- of these names can make the placeholders of whatever the part's places hold.
+-- of these names can fill the placeholders with whatever the part's places hold.
 --     places, Names    a placeholder for each of ps; both halves of the name of each
---     names-new        as many names as there are elements
+--     names-new        makes as many names as there are elements
 --     some-cells       places in memory hold some values, whether these are there or lent on
 --     fills            values in memory become the placeholders: each name is set to the value at its place
 use mathlib.Core.Path.{_≡_, refl, sym, ap}

@@ -1,4 +1,4 @@
--- The stored form: its length, its slots, and one event more.
+-- The stored form: its length, its slots, and one more event.
 use mathlib.Core.Path.{_≡_, refl, sym, ap, _∙_}
 use mathlib.Core.List.{List, [], _∷_, _++_}
 use Prim.Native.Nat.{ℕ, _+_, _-_, _*_, _≤_, _<_}
@@ -45,7 +45,7 @@ module _ (s : Setup) (es : List Event) (e : Event) (h : length es < 64) where
       let n : 512 - 8 * length es - 8 ≡ 512 - 8 * length (e ∷ es) = omega arith in
       rw (length-slot e) (sym (drop-drop 8 place (encode s es)) ∙ ap (drop 8) a ∙ drop-zeros 8 (512 - 8 * length es) ∙ ap zeros n)
 
-  -- the slot written after the last one, and byte 24
+  -- writing the slot after the last one, and byte 24, gives the stored form with one more event
   pub append-encode : append (encode s es) e ≡ encode s (e ∷ es)
   unfolding put
   append-encode = rw (before, behind, add-one (length es))

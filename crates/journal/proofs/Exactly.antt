@@ -23,7 +23,7 @@ use Rattle.journal.specs.Acceptance.{isHeader, isSlot, entersAt, entersU
 use Rattle.journal.proofs.Encoded.{length-slots, length-encode}
 use Rattle.journal.proofs.Reading.{no-year}
 
--- three lists joined, part by part
+-- three joined lists are compared part by part
 same-parts : (h b z journal : List ℕ) (m n : ℕ) → length h ≡ m → length b ≡ n
     → same (h ++ b ++ z) journal ≡ ((same h (take m journal) && same b (take n (drop m journal))) && same z (drop (m + n) journal))
 same-parts h b z journal m n p q =
@@ -47,7 +47,7 @@ module _ (journal : List ℕ) where
   slots-length : (j : ℕ) → length (slots (eventsIn journal j)) ≡ 8 * j
   slots-length j = omega (arith, length-slots (eventsIn journal j), length-events journal j)
 
-  -- the slots so far and one more
+  -- comparing j + 1 slots is comparing the first j and then one more
   slots-next : (j : ℕ) → same (slots (eventsIn journal (suc j))) (body (suc j)) ≡ (same (slots (eventsIn journal j)) (body j) && isSlot (drop (slotPlace j) journal))
   unfolding isSlot
   slots-next j =
@@ -72,7 +72,7 @@ module _ (journal : List ℕ) where
   abbrev count : ℕ
   count = getD journal 24 0
 
-  -- the bytes of what is read, part by part
+  -- whether encoding what is read gives the buffer again, part by part
   encoded-is : same (encode (setupIn journal) (eventsIn journal count)) journal
       ≡ ((isHeader journal && same (slots (eventsIn journal count)) (body count)) && same (zeros (512 - 8 * count)) (drop (slotPlace count) journal))
   unfolding isHeader
@@ -82,7 +82,7 @@ module _ (journal : List ℕ) where
       ap (λ k. same (header s k ++ slots es ++ zeros (512 - 8 * k)) journal) (length-events journal count)
       ∙ same-parts (header s count) (slots es) (zeros (512 - 8 * count)) journal 32 (8 * count) refl (slots-length count)
 
-  -- what is asked of a buffer, as tests of its parts
+  -- the test of a whole buffer, as tests of its parts
   whole-is : (same (encode (setupIn journal) (eventsIn journal count)) journal && valid (setupIn journal) (eventsIn journal count))
       ≡ (isHeader journal && same (zeros (512 - 8 * count)) (drop (slotPlace count) journal) && (setupInRange (setupIn journal) && entersUpTo journal count))
   whole-is = rw (encoded-is, enters-is count) (moved (isHeader journal) _ _ _)
@@ -96,7 +96,7 @@ module _ (journal : List ℕ) where
   rest-length : length journal ≡ 544 → length (drop (slotPlace count) journal) ≡ 512 - 8 * count
   rest-length h = omega (arith, length-drop (slotPlace count) journal)
 
-  -- a buffer of acceptable parts is read as what they say
+  -- a buffer with acceptable parts is read as the setup and events in them
   pub acceptable-read : Acceptable journal → readJournal journal ≡ Year (setupIn journal) (eventsIn journal count)
   unfolding readAs
   acceptable-read p =
@@ -107,7 +107,7 @@ module _ (journal : List ℕ) where
   tests-hold true t fs h = refl
   tests-hold false t fs h = absurd (no-year t fs h)
 
-  -- and an accepted buffer has acceptable parts
+  -- conversely, an accepted buffer has acceptable parts
   pub read-acceptable : (t : Setup) (fs : List Event) → readJournal journal ≡ Year t fs → Acceptable journal
   unfolding readAs
   read-acceptable t fs h =
@@ -124,7 +124,7 @@ module _ (journal : List ℕ) where
       = sym (ap length (same-equal (encode s es) journal (stored .0))) ∙ length-encode s es (omega (arith, length-events journal count)) in
       record { size = size; header = front .0; setup = year .0; count = few; events = year .1; unused = rw (rest-length size) (front .1) }
 
-  -- a buffer of which some part is not so is not accepted
+  -- a buffer with an unacceptable part is not accepted
   pub not-acceptable : (Acceptable journal → ⊥) → readJournal journal ≡ NoSetup
   not-acceptable f = by (readJournal journal) refl
     where

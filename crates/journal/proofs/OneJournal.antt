@@ -1,4 +1,4 @@
--- Demand 2 of the stored form.
+-- Demand 2 for the stored form.
 use native.Mathlib.Omega.{arith}
 use Rattle.year.proofs.Replayed.{replay-stored}
 use Rattle.year.proofs.Ranges.{valid-in-range}

@@ -1,4 +1,4 @@
--- What was stored is read back, and what is read back was stored so.
+-- The round trip: what was stored is read back, and a buffer that is read as a setup and events is their stored form.
 use mathlib.Core.Path.{_≡_, refl, sym, ap, _∙_}
 use mathlib.Core.Bool.{Bool, true, false, cond, _&&_, and-eq-true-iff}
 use mathlib.Core.List.{List, [], _∷_, _++_, append-assoc}
@@ -27,7 +27,7 @@ use Rattle.journal.proofs.Encoded.{length-slots, append-encode}
 
 -- ---- an event and its slot
 
--- what a slot holds in two bytes fits them
+-- the two-byte fields of a slot fit two bytes
 abbrev Fits : Event → Type 0
 Fits e = (fieldsOf e .first < 65536) × (fieldsOf e .second < 65536) × (fieldsOf e .third < 65536)
 
@@ -47,7 +47,7 @@ event-back (Amendment standards) rest h = rw (from-two (standards .hcnox) (h .0)
 event-back NextPeriod rest h = refl
 event-back Declaration rest h = refl
 
--- the slots of a list, wherever they stand, are read as that list
+-- the slots of a list of events, whatever comes after them, are read back as that list
 events-back : (s : Setup) (es : List Event) (journal rest : List ℕ) → valid s es ≡ true → drop 32 journal ≡ slots es ++ rest → eventsIn journal (length es) ≡ es
 events-back s [] journal rest v p = refl
 events-back s (e ∷ es) journal rest v p =
@@ -108,7 +108,7 @@ module _ (journal : List ℕ) (s t : Setup) (es fs : List Event) where
       }
   by-answer false p h = absurd (no-year s es h)
 
--- what is read back was stored so, and could have been entered
+-- a buffer that is read as a setup and events is their stored form, and these could have been entered
 pub read-stores : (journal : List ℕ) (s : Setup) (es : List Event) → readJournal journal ≡ Year s es → Stores journal s es
 unfolding readAs
 read-stores journal s es h =
@@ -116,17 +116,17 @@ read-stores journal s es h =
     let fs = eventsIn journal (getD journal 24 0) in
     by-answer journal s t es fs (same (encode t fs) journal && valid t fs) refl h
 
--- two setups and lists with one journal are equal
+-- `encode` is injective: two setups and lists with the same journal are equal
 pub one-journal : (s t : Setup) (es fs : List Event) → valid s es ≡ true → valid t fs ≡ true → encode s es ≡ encode t fs → (s ≡ t) × (es ≡ fs)
 one-journal s t es fs v w p =
     let q : Year s es ≡ Year t fs = sym (read-encode s es v) ∙ ap readJournal p ∙ read-encode t fs w in
     (cc, cc)
 
--- a buffer that is not accepted is the journal of none
+-- a buffer that is not accepted is the journal of no setup and list
 pub none-stored : (journal : List ℕ) → readJournal journal ≡ NoSetup → (s : Setup) (es : List Event) → Stores journal s es → ⊥
 none-stored journal h s es p = no-year s es (sym h ∙ ap readJournal (p .stored) ∙ read-encode s es (p .valid))
 
--- ---- one event more
+-- ---- one more event
 
 module _ (journal : List ℕ) (s : Setup) (es : List Event) (e : Event) (h : readJournal journal ≡ Year s es) (a : admissible (replay s es) e ≡ true) where
   pub read-few : length es < 64

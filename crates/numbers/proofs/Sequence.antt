@@ -29,7 +29,7 @@ unfolding digits
 digits-fit [] = omega arith
 digits-fit (b ∷ bs) = by-test (λ n. n ≤ suc (length bs)) (isDigit b) (suc (digits bs)) 0 (λ _. omega (arith, digits-fit bs)) (λ _. omega arith)
 
--- a number that can be read ends in the line, at `least` or after it
+-- a number that can be read ends within the line, at position `least` or after it
 abbrev Ends : List ℕ → ℕ → Number → Type 0
 Ends line least (Value v next) = (least ≤ next) × (next ≤ length line)
 Ends line least Nothing = Unit {0}
@@ -42,7 +42,7 @@ number-ends line at =
     by-test (Ends line (at + 1)) (isNumber line at count) (Value (spelt 0 (take count bytes)) (at + count)) Nothing
     (λ e. omega (arith, number-size line at count e, digits-fit bytes, length-drop at line)) (λ _. tt)
 
--- with its space it takes two bytes or more
+-- with its space, a number takes at least two bytes
 pub spaced-ends : (line : List ℕ) (at v next : ℕ) → spacedNumber line at ≡ Value v next → (at + 2 ≤ next) × (next ≤ length line)
 unfolding spacedNumber
 spaced-ends line at v next e =
@@ -57,7 +57,7 @@ nothing-past line at h = rw (List·getD-eq-default line 0 h)
 
 -- ---- what was read
 
--- numbers in front of those that follow them, if these can be read
+-- numbers joined to those that follow them, if the latter can be read
 abbrev joined : List ℕ → Option (List ℕ) → Option (List ℕ)
 joined vs (some ws) = some (vs ++ ws)
 joined vs none = none
@@ -70,12 +70,12 @@ joined-next : (vs : List ℕ) (v : ℕ) (rest : Option (List ℕ)) → joined vs
 joined-next vs v (some ws) = ap some (sym (append-assoc vs (v ∷ []) ws))
 joined-next vs v none = refl
 
--- the numbers before a position are the first n of `values`: each takes two bytes or more, and what follows them makes the whole
+-- the numbers before a position are the first n of `values`: each takes at least two bytes, and with those that follow they are all numbers of the line
 abbrev pub ReadTo : List ℕ → List ℕ → ℕ → ℕ → Type 0
 ReadTo line values at n =
     (1 + 2 * n ≤ at) × (at ≤ length line) × (numbersFrom (length line) line 1 ≡ joined (take n values) (numbersFrom (length line - n) line at))
 
--- and they are all that was read, over the values at entry
+-- and they are all that was read so far, written over the values at entry
 abbrev pub Kept : List ℕ → List ℕ → List ℕ → ℕ → ℕ → Type 0
 Kept line before values at n =
     (values ≡ put before 0 (take n values)) × (numbersRead (length line) line 1 ≡ take n values ++ numbersRead (length line - n) line at)
@@ -144,7 +144,7 @@ module _ (line values : List ℕ) (at n : ℕ) (r : ReadTo line values at n) whe
           r .2 ∙ rw (one-more v next e, add-one n, take-suc-set values n v room) (joined-next (take n values) v rest),
         )
 
--- ---- what the answer tells in document 01's numbers
+-- ---- the answer in document 01's numbers
 
 told : (read : Option (List ℕ)) → numbersOutcomeOf (counted read) ≡ record { refusal = formRefusal read; count = length (listed read) }
 told (some vs) = refl

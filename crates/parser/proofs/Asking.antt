@@ -13,7 +13,7 @@ use Rattle.parser.specs.declared.CallRequest.the-variants as callRequest
 use Rattle.parser.specs.declared.EntryRequest.the-variants.{Engine}
 use Rattle.parser.specs.Request.{commandFor, Enough, Requests}
 
--- a request that asks for a call, with numbers enough for it
+-- a request that asks for a call, with enough numbers for it
 pub record RequestsCall (request : Request) (vs : List ℕ) (call : Call) : Type 0 where
   pub command : commandFor request vs ≡ Make call
   pub enough : Enough request vs

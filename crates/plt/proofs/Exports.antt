@@ -1,4 +1,4 @@
--- What an exported function leaves, where a lent slice is too short and where it is not.
+-- What an exported function leaves if a lent slice is too short, and if it is not.
 use mathlib.Core.Path.{_≡_, refl, ap, _∙_}
 use mathlib.Core.List.{List}
 use Prim.Native.Nat.{ℕ, _≤_, _<_}

@@ -1,4 +1,4 @@
--- A pollutant's column of marks while it is filled, engine by engine: the room that the work at an engine needs, and C and the mark from what is carried.
+-- Filling a pollutant's column of marks, engine by engine: the figures of each engine fit, and C and the mark are computed from what is carried.
 use mathlib.Core.Path.{_≡_, refl, ap, _∙_}
 use mathlib.Core.List.{List, [], _∷_}
 use Prim.Native.Nat.{ℕ, suc, _+_, _≤_, _<_}
@@ -28,7 +28,7 @@ use Rattle.printing.specs.Columns.{MarkedTo}
 abbrev testAt : List ℕ → List ℕ → ℕ → Test
 testAt xs ts i = record { result = getD xs i 0; standard = getD ts i 0 }
 
--- what is carried past the engines before a place: the sums, C, and the column, in which engine 1 has its '-' from the start
+-- what is carried after the engines before place i: the sums, C, and the column, in which engine 1 has its '-' from the start
 pub record Carried (k : ℕ) (xs ts : List ℕ) (i : ℕ) (column : List ℕ) (s : Sums) (c : Interval) : Type 0 where
   pub summed : s ≡ sums (testsTo xs ts i)
   pub totalled : c ≡ cumsum k (testsTo xs ts i)
@@ -40,11 +40,11 @@ pub carried-start : (k : ℕ) (xs ts : List ℕ) (s : Sums) → s ≡ sums [] �
 carried-start k xs ts s e = record { summed = e; totalled = refl; places = refl; first = refl; marked = λ i h. absurd (omega arith) }
 
 module _ {k : ℕ} {xs ts : List ℕ} {i : ℕ} {column : List ℕ} {s : Sums} {c : Interval} (w : Carried k xs ts i column s c) (fits : ColumnsInRange xs ts (i + 1) k) where
-  -- the figures of the engines before, of which only the sums and C are carried
+  -- the figures of the engines before i; only their sums and C are carried
   abbrev before : Running
   before = running k (testsTo xs ts i)
 
-  -- the place, and the engine there
+  -- the place i and the engine there are in range
   pub in-range : (i < 40) × (getD xs i 0 ≤ 20000) × (getD ts i 0 ≤ 20000)
   in-range =
       let r : ColumnsInRange xs ts (suc i) k = rw (add-one) at fits in
@@ -57,7 +57,7 @@ module _ {k : ℕ} {xs ts : List ℕ} {i : ℕ} {column : List ℕ} {s : Sums} {
   unfolding running
   sums-room = rw (w .summed) (sums-in-range k before (getD xs i 0) room)
 
-  -- with the sums of one engine more
+  -- given the sums with one more engine
   module _ {more : Sums} (added : (h : List Test) (t : ℕ) → s ≡ sums h → more ≡ sums (record { result = getD xs i 0; standard = t } ∷ h)) where
     again : (t : ℕ) → more ≡ sums (record { result = getD xs i 0; standard = t } ∷ room .history)
     unfolding running
@@ -69,7 +69,7 @@ module _ {k : ℕ} {xs ts : List ℕ} {i : ℕ} {column : List ℕ} {s : Sums} {
     place : more .n ≡ i + 1
     place = ap (λ (z : Sums). z .n) summed-next ∙ tests-length xs ts (i + 1)
 
-    -- engine 1: nothing but the sums changes
+    -- engine 1: only the sums change
     pub carried-early : more .n < 2 → Carried k xs ts (i + 1) column more c
     carried-early one =
         let none : i ≡ 0 = omega (arith, place) in

@@ -1,4 +1,4 @@
--- The bytes of the marks of the engines before a place, with one engine more, and a buffer in which they stand.
+-- The bytes of the marks of the engines before a place, the same with one more engine, and a buffer that has them at its front.
 use mathlib.Core.Path.{_≡_, ap, _∙_}
 use mathlib.Core.List.{List, [], _∷_, _++_, map, map-append}
 use Prim.Native.Nat.{ℕ, suc, _+_, _*_, _≤_, _<_}
@@ -25,14 +25,14 @@ module _ (k : ℕ) (e : Engines) where
   pub few : EnginesInRange e k → e .count ≤ 40
   few r = columns-few (resultColumn Hcnox e) (standardColumn Hcnox e) k (e .count) (columns-fit Hcnox e k r)
 
-  -- a pollutant's column of marks, and the byte of an engine in it
+  -- a pollutant's column of marks, and an engine's byte in it
   abbrev pub ColumnOf : Pollutant → List ℕ → Type 0
   ColumnOf q column = MarkedTo k (resultColumn q e) (standardColumn q e) (e .count) column
 
   byte-is : (q : Pollutant) (column : List ℕ) → ColumnOf q column → (i : ℕ) → i < e .count → getD column i 0 ≡ markByte (mark k (history q (testedTo e (i + 1))))
   byte-is q column m i h = rw tested-history (m i h)
 
-  -- the bytes of the newest of these engines
+  -- the two bytes of the newest of these engines
   abbrev pair : ℕ → List ℕ
   pair i = markByte (mark k (history Hcnox (testedTo e i))) ∷ markByte (mark k (history Co (testedTo e i))) ∷ []
 
@@ -42,7 +42,7 @@ module _ (k : ℕ) (e : Engines) where
   length-bytes : (i : ℕ) → length (bytesTo i) ≡ 2 * i
   length-bytes i = length-map (printedMarks judged k (testedTo e i)) markByte ∙ printed-length judged k (testedTo e i) ∙ ap (λ (n : ℕ). 2 * n) (tested-length e i)
 
-  -- a buffer in which these bytes stand at the front: its length, and the marks of one engine more
+  -- a buffer with these bytes at its front: its length, and writing the marks of one more engine
   module _ (out : List ℕ) (i : ℕ) (printed : List ℕ) (p : printed ≡ put out 0 (bytesTo i)) where
     pub length-printed : 2 * i ≤ length out → length printed ≡ length out
     length-printed h = rw p (length-put out 0 (bytesTo i) (omega (arith, length-bytes i)))

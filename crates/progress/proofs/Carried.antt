@@ -1,4 +1,4 @@
--- What is carried beside the year, taken apart: the number of engines, and each pollutant's figures with their ranges.
+-- What a state carries beside the year, part by part: the number of engines, and each pollutant's figures with their ranges.
 use mathlib.Core.Path.{_≡_, ap}
 use mathlib.Core.Bool.{true}
 use Prim.Native.Nat.{ℕ, _≤_, _<_}
@@ -19,12 +19,12 @@ use Rattle.engines.proofs.Arrays.{tested-length}
 use Rattle.progress.specs.declared.Progress.{Progress as State}
 use Rattle.progress.specs.State.{progressOf, Consistent}
 
--- a pollutant's figures of a state
+-- the figures that a state carries for a pollutant
 abbrev pub figuresOf : Pollutant → State → Running
 figuresOf Hcnox p = p .hcnox
 figuresOf Co p = p .co
 
--- room for an engine: its place and its numbers in the arrays, one more of the current period, and its results in the figures
+-- there is room for an engine: its place and numbers fit the arrays, the current period can count one more, and its results fit the figures
 pub record Room (p : State) (number : ℕ) (results : Pair) : Type 0 where
   pub engine : EngineInRange (p .engines) number results (p .standards) (p .period)
   pub current : p .current ≤ 40
@@ -41,7 +41,7 @@ module _ (p : State) (c : Consistent p) where
   carried Hcnox = c .figures .hcnox
   carried Co = c .figures .co
 
-  -- figures of the year at a resolution: the ranges of what is progressOf, and the flags
+  -- a pollutant's figures of the year at any resolution: they are in range, and their flags are the definitions'
   module _ (k : ℕ) (q : Pollutant) (f : Running) (e : f ≡ running k (history q (tested (p .engines)))) where
     pub shown-fits : Worked f
     shown-fits = record { resolution = k; history = history q (tested (p .engines)); worked = e; inRange = c .inRange .histories q }
@@ -54,7 +54,7 @@ module _ (p : State) (c : Consistent p) where
     unfolding running
     undecided-is = ap (λ (g : Running). g .undecided) e
 
-  -- an engine that could be entered has room
+  -- there is room for an engine that could be entered
   pub room : (number readings : ℕ) (results : Pair) → admissible (progressOf p) (Engine number readings results) ≡ true → Room p number results
   room number readings results h =
       let a = admitted-engine (progressOf p) number readings results h in

@@ -1,4 +1,4 @@
--- The state of a setup, and of one event more: it stands for the year with that event, and what it carries is worked from it.
+-- The state after a setup, and after one more event: it represents the year with that event, and what it carries is computed from that year.
 use mathlib.Core.Path.{_≡_, refl, sym, subst}
 use mathlib.Core.Bool.{Bool, true, false}
 use mathlib.Core.List.{List, [], _∷_}
@@ -22,7 +22,7 @@ use Rattle.engines.specs.Engines.{tested}
 use Rattle.progress.specs.declared.Progress.{Progress as State}
 use Rattle.progress.specs.State.{progressOf, Figured, Consistent}
 
--- the state stands for this year, and is consistent
+-- the state represents this year, and is consistent
 abbrev pub Represents : State → Progress → Type 0
 Represents p y = (progressOf p ≡ y) × Consistent p
 
@@ -39,7 +39,7 @@ started s e h c te hh hc =
     stands : record { setup = s; standards = s .standards; period = 1; tested = tested e; stored = 0; declared = false } ≡ start s
     stands = rw te
 
--- a state with one event more that is no engine
+-- a state with one more event that is not an engine
 abbrev changed : State → Pair → ℕ → Bool → ℕ → State
 changed p standards period declared current =
     record {
@@ -55,7 +55,7 @@ changed p standards period declared current =
     }
 
 module _ (p : State) (c : Consistent p) where
-  -- a state that shows the year with one event more stands for it, if its period's engines are counted and its figures worked
+  -- a state that shows the year with one more event represents it, if it has the count of its period's engines and the figures at 1,024
   stepped : (e : Event) → admissible (progressOf p) e ≡ true → (s : State) → progressOf s ≡ after e (progressOf p)
       → s .current ≡ testedIn (s .period) (tested (s .engines)) → Figured 1024 (s .engines) (s .hcnox) (s .co) → Represents s (after e (progressOf p))
   stepped e a s is n f = (is, record { inRange = subst InRange (sym is) (after-in-range e (progressOf p) (c .inRange) a); current = n; figures = f })
@@ -70,7 +70,7 @@ module _ (p : State) (c : Consistent p) where
   pub declared : admissible (progressOf p) Declaration ≡ true → Represents (changed p (p .standards) (p .period) true (p .current)) (after Declaration (progressOf p))
   declared a = stepped Declaration a _ refl (c .current) (c .figures)
 
-  -- an engine, once it is among the tested and its results are added to the figures
+  -- one more engine: it is among the tested, and its results are added to the figures
   pub engine : (number readings : ℕ) (results : Pair) (e : Engines) (h o : Running)
       → admissible (progressOf p) (Engine number readings results) ≡ true
       → tested e ≡ record { number = number; results = results; standards = p .standards; period = p .period } ∷ tested (p .engines)

@@ -1,4 +1,4 @@
--- What is printed as the input comes, with no more than 65 bytes of a line held, is the whole run.
+-- Taking the input byte by byte, with at most 65 bytes of a line held, prints the whole run.
 use mathlib.Core.Path.{_≡_, refl, sym, ap, _∙_}
 use mathlib.Core.Logic.{_⊎_, inl, inr, ⊎-elim}
 use mathlib.Core.Bool.{Bool, true, false}
@@ -20,7 +20,7 @@ long : (line : List ℕ) → 64 < length line → commandOf line ≡ Refuse 1
 unfolding commandOf
 long line h = rw (lt-ltb 64 (length line) h)
 
--- a line is of at most 65 bytes or longer
+-- a line has at most 65 bytes, or it is longer
 either-length : (n : ℕ) → (n ≤ 65) ⊎ (65 < n)
 either-length n = by (leb n 65) refl
   where
@@ -29,7 +29,7 @@ either-length n = by (leb n 65) refl
     by false e = inr (leb-false n 65 e)
 
 module _ (line : List ℕ) where
-  -- up to 65 bytes a line is held whole, and from there on no byte is added
+  -- a line of up to 65 bytes is held whole, and after that no byte is added
   at-most : length line ≤ 65 → take 65 line ≡ line
   at-most = take-all 65 line
 
@@ -58,7 +58,7 @@ module _ (line : List ℕ) where
       (λ h. take-at (take 65 line) (b ∷ []) 65 (cut (omega arith)) ∙ sym (take-append-le 65 line (b ∷ []) (omega arith)))
       (either-length (length line))
 
--- the start of a line in front of the lines of what follows it
+-- the start of a line, joined to the lines of the input that follows it
 abbrev onto : List ℕ → List (List ℕ) → List (List ℕ)
 onto [] lines = lines
 onto (b ∷ bs) [] = (b ∷ bs) ∷ []
@@ -74,7 +74,7 @@ onto-end : (start : List ℕ) (lines : List (List ℕ)) → onto start ([] ∷ l
 onto-end [] lines = refl
 onto-end (x ∷ xs) lines = ap (λ l. (x ∷ l) ∷ lines) (append-nil xs)
 
--- what is printed and left of the rest of an input, after the start of a line, is that of the lines that it makes
+-- after the start of a line, the rest of the input prints, and leaves in the journal, what the lines that the two make do
 abbrev Goes : List ℕ → List ℕ → List ℕ → Type 0
 Goes input journal start =
     (output journal (take 65 start) input ≡ printed (replies journal (onto start (linesOf input))))
@@ -85,7 +85,7 @@ ended : (journal start : List ℕ) → Goes [] journal start
 ended journal [] = (refl, refl)
 ended journal (b ∷ bs) = (ap (λ reply. reply ++ (byte "\n" ∷ [])) (same-reply (b ∷ bs) journal), same-journal (b ∷ bs) journal)
 
--- one byte more, from what holds of the rest after it: the line ends, or it goes on
+-- one more byte, given the claim for the rest after it: the line ends, or it goes on
 one-byte : (b : ℕ) (bs journal start : List ℕ) → Goes bs (journalAfterLine start journal) [] → Goes bs journal (start ++ (b ∷ [])) → Goes (b ∷ bs) journal start
 one-byte b bs journal start next more = by (eqb b (byte "\n")) refl
   where
@@ -96,7 +96,7 @@ one-byte b bs journal start next more = by (eqb b (byte "\n")) refl
     )
     by false e = rw (e, onto-byte start b (linesOf bs), held-more start b) more
 
--- the rest of an input after the start of a line
+-- any rest of an input after any start of a line
 from-start : (input journal start : List ℕ) → Goes input journal start
 from-start [] journal start = ended journal start
 from-start (b ∷ bs) journal start =

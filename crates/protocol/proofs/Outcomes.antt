@@ -1,4 +1,4 @@
--- What a number's answer tells in document 01's numbers is what the line tells.
+-- A number's answer, put in document 01's numbers, is what the line defines.
 use mathlib.Core.Path.{_≡_, refl, ap, _∙_}
 use mathlib.Core.Bool.{Bool, true, false, cond}
 use mathlib.Core.List.{List}
@@ -31,7 +31,7 @@ module _ (line : List ℕ) where
       by true = number-outcome (position + 1)
       by false = refl
 
-  -- what a function promises of such an answer, from its first equation
+  -- what a function promises about such an answer, from its first equation
   pub spaced-promised : (position : ℕ) (n : Number) → n ≡ spacedNumber line position
       → (n ≡ spacedNumber line position) × (numberOutcomeOf n ≡ spacedOutcome line position)
   spaced-promised position n e = (e, ap numberOutcomeOf e ∙ spaced-outcome position)

@@ -1,4 +1,4 @@
--- Document 01's whole run, line by line, on the definitions. Deviations are found by their laws; the rest is computed.
+-- Document 01's whole run, line by line, on the definitions. Deviations are proved by their laws; the rest is computed.
 use mathlib.Core.Path.{_≡_, refl, ap, _∙_}
 use mathlib.Core.Bool.{true}
 use mathlib.Core.List.{List, [], _∷_}
@@ -58,11 +58,11 @@ three = engine 3 900 ∷ two
 abbrev declared : List Event
 declared = Declaration ∷ three
 
--- the journal with them
+-- the journal that holds such events
 abbrev holding : List Event → List ℕ
 holding es = encode plant es
 
--- an engine of one reading for each pollutant
+-- an engine with one reading for each pollutant
 abbrev entering : ℕ → ℕ → ℕ → Entry
 entering number hcnox co = EnterEngine number (record { hcnox = hcnox ∷ []; co = co ∷ [] })
 
@@ -81,7 +81,7 @@ valid-three = valid-before plant Declaration three valid-declared
 valid-two : valid plant two ≡ true
 valid-two = valid-before plant (engine 3 900) two valid-three
 
--- and so each journal is read as its year
+-- so each journal is read as its year
 stored : (es : List Event) → length (holding es) ≡ 544 → readJournal (holding es) ≡ readAs (holding es) plant es → valid plant es ≡ true
     → Stored (holding es) plant es
 stored es size same v = record { size = size; isYear = same ∙ read-as plant es v }

@@ -1,4 +1,4 @@
--- Lines on a journal of zeros go the way of the reference model.
+-- Lines on a zeroed journal behave as the reference model does.
 use mathlib.Core.Path.{_≡_, refl, _∙_}
 use mathlib.Core.Bool.{Bool, true, false, cond}
 use mathlib.Core.List.{List, [], _∷_}
@@ -41,7 +41,7 @@ module _ (calls : List Call) where
       by true = refl
       by false = refl
 
-  -- a query leaves the state, accepted or not
+  -- a query leaves the state unchanged, accepted or not
   query-leaves : (query : Query) → stepModel (Ask query) model ≡ model
   unfolding stepModel
   query-leaves query = cond-same (eqb (refusal 544 (Ask query) model) 0) model

@@ -1,4 +1,4 @@
--- What status and the marks call promise where they are accepted, from what their bodies have worked.
+-- What status and the marks call promise if they are accepted, from what their bodies have computed.
 use mathlib.Core.Path.{_≡_, refl, sym, ap, _∙_}
 use mathlib.Core.Bool.{false}
 use mathlib.Core.List.{List, [], map}
@@ -24,7 +24,7 @@ use Rattle.reference.proofs.Demand1.{demand-1, out-fits, mark-bytes}
 use Rattle.reference.proofs.Promises.{Promised, promised}
 use Rattle.refusals.proofs.ScannedYear.{scanned-consistent, scanned-is}
 
--- an accepted status, and accepted marks, on the year that a scan has told
+-- an accepted status, and accepted marks, on the year that a scan found
 module _ (journal : List ℕ) (scanned : Scanned) (t : ScannedAs scanned (readJournal journal)) where
   module _ (h : refusalOn (Ask ReadStatus) journal ≡ 0) where
     pub status-ready : Consistent (scanned .progress)

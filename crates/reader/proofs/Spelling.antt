@@ -20,7 +20,7 @@ within-true low high x e =
     let p = and-eq-true-iff (leb low x) (leb x high) .0 e in
     (leb-true low x (p .0), leb-true x high (p .1))
 
--- a digit's byte
+-- the bounds of a digit's byte
 pub digit-bounds : (b : ℕ) → isDigit b ≡ true → (48 ≤ b) × (b ≤ 57)
 digit-bounds b e = within-true 48 57 b e
 
@@ -37,7 +37,7 @@ module _ (line : List ℕ) (i : ℕ) where
   unfolding digits
   digits-step h e = rw (add-one, drop-cons line i 0, e)
 
-  -- where there are digits, the first stands in the line
+  -- if there are digits at i, the first of them is within the line
   pub digits-here : 0 < digits (drop i line) → (i < length line) × (isDigit (getD line i 0) ≡ true)
   digits-here h = by (decLt i (length line))
     where
@@ -49,7 +49,7 @@ module _ (line : List ℕ) (i : ℕ) where
       by (yes l) = (l, test l (isDigit (getD line i 0)) refl)
       by (no f) = absurd (omega (arith, digits-past (omega arith)))
 
--- the number that digits spell, with one more
+-- the number that digits spell, with one more digit
 spelt-more : (v : ℕ) (xs : List ℕ) (b : ℕ) → spelt v (xs ++ (b ∷ [])) ≡ spelt v xs * 10 + (b - 48)
 unfolding spelt
 spelt-more v [] b = refl
@@ -63,11 +63,11 @@ spelt-next line at i from inside =
     let room : i - at < length (drop at line) = omega (arith, length-drop at line) in
     rw (next, take-suc (drop at line) (i - at) 0 room, getD-drop, place) (spelt-more 0 (take (i - at) (drop at line)) (getD line i 0))
 
--- one digit more: the value stays below the next power of ten
+-- with one more digit, the value stays below the next power of ten
 pub below-next : (v count digit : ℕ) → v < 10 ^ count → digit ≤ 9 → v * 10 + digit < 10 ^ (count + 1)
 below-next v count digit h few = rw (add-one, pow-suc) (omega arith)
 
--- the value of fewer than nine digits leaves room for one more
+-- the value of fewer than nine digits leaves room for one more digit
 pub room : (v count : ℕ) → v < 10 ^ count → count < 9 → v < 100000000
 room v count h few = omega (arith, pow-le-pow-right {n = 10} (lit< tt) {i = count} {j = 8} (omega arith))
 
@@ -77,7 +77,7 @@ unfolding isNumber
 number-size line at count e =
     within-true 1 8 count (and-eq-true-iff (within 1 8 count) (eqb count 1 || not (eqb (getD line at 0) 48)) .0 e .0)
 
--- nine digits are read of more, and are no number either
+-- nine or more digits are not a number; of more than nine, only nine are read
 pub too-many : (line : List ℕ) (at count : ℕ) → 9 ≤ count → isNumber line at count ≡ false
 unfolding isNumber
 too-many line at count h = rw (le-leb 1 count (omega arith), lt-leb count 8 (omega arith))

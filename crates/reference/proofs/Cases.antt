@@ -1,4 +1,4 @@
--- The worked cases of the calls. A deviation without variation is 0 by its law; the rest is computed.
+-- The worked cases of the calls. A deviation with V = 0 is 0 by its law; the rest is computed.
 use mathlib.Core.Path.{refl}
 use Rattle.rounding.specs.Result.{nearestEven}
 use Rattle.statistics.specs.Spread.{variation}

@@ -1,4 +1,4 @@
--- The worked cases of refusal 14. Engines at their standards have not failed, by the law of their verdict; the rest is computed.
+-- The worked cases of refusal 14. Engines at their standards have not failed, by the law for their verdict; the rest is computed.
 use mathlib.Core.Path.{_≡_, refl}
 use mathlib.Core.Bool.{false}
 use Rattle.rounding.specs.Result.{nearestEven}
@@ -12,7 +12,7 @@ use Rattle.year.proofs.CasesOfVerdict.{at-standard}
 use Rattle.reference.specs.Refusals.{refusals, refusal}
 use Rattle.reference.specs.CasesOfForty.{CasesOfForty}
 
--- a year of verdict 3 is open
+-- a year with verdict 3 still takes events
 open-at-3 : (p : Progress) → verdict 1024 p ≡ 3 → closed p ≡ false
 unfolding closed
 open-at-3 p three = rw three

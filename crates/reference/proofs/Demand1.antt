@@ -69,9 +69,9 @@ setup-written : (s : Setup) (journal : List ℕ) → refusalOn (SetUp s) journal
 unfolding journalAfter
 setup-written s journal h = accepted-gives (SetUp s) journal (written (SetUp s) journal) journal h
 
--- ---- an entry: where the buffer is kept, and its length
+-- ---- an entry: at which indices the buffer is unchanged, and its length
 
--- to prove a fact of the journal after an entry, prove it of the same journal, and of one event appended where there is a slot
+-- to prove a fact of the journal after an entry, prove it of the journal before, and of that journal with an event appended if a slot is left
 by-entry : (P : List ℕ → Type 0) (entry : Entry) (journal : List ℕ) → P journal
     → ((e : Event) → length journal ≡ 544 → slotPlace (getD journal 24 0) + 8 ≤ length journal → P (append journal e)) → P (journalAfter (Enter entry) journal)
 unfolding journalAfter
@@ -107,7 +107,7 @@ module _ (journal : List ℕ) (e : Event) (n : length journal ≡ 544) (room : s
           by (yes l) = inl l
           by (no f) = ⊎-elim (λ e. absurd (k (sym e))) inr (eq-or-lt-of-le (omega arith))
 
--- ---- an output: it fits, where the call is accepted
+-- ---- an output: it fits if the call is accepted
 
 pub mark-bytes : (model : Model) → length (outBytes Marks model) ≡ 2 * statusOf model .n
 mark-bytes NoSetup = refl
@@ -122,7 +122,7 @@ out-fits Marks journal size h =
     by NoSetup row = omega arith
     by (Year s es) row = ltb-false size (2 * length (replay s es .tested)) row
 
--- to prove a fact of the output after a call, prove it of the same output, and of the form's bytes put at its front where they fit
+-- to prove a fact of the output after a call, prove it of the output before, and of that output with the form's bytes put at its front if they fit
 by-output : (P : List ℕ → Type 0) (form : Form) (journal out : List ℕ) → P out
     → (0 + length (bytes form journal out) ≤ length out → P (put out 0 (bytes form journal out))) → P (outAfter form journal out)
 unfolding outAfter

@@ -76,7 +76,7 @@ module _ (p : Progress) where
   figures-of Hcnox = refl
   figures-of Co = refl
 
-  -- a figure from engine 2 on
+  -- any figure, from engine 2 on
   later : {A : Type 0} (figure : Figures → A) (q : Pollutant) → 2 ≤ length (p .tested)
       → figure (figuresOf q (status 1024 p))
       ≡ figure (record {
@@ -105,7 +105,7 @@ module _ (p : Progress) where
             figures-of q ∙ before-two (sizeOf q p) (history q (p .tested)) few ∙ ap (early (total (history q (p .tested)))) (no-size (history q (p .tested)) few);
       }
 
--- ---- what is answered
+-- ---- the answer
 
 module _ (call : Call) (journal : List ℕ) (h : refusalOn call journal ≡ 0) where
   -- the journal after an accepted call holds a year

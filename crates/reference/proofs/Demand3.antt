@@ -41,7 +41,7 @@ module _ (journal : List ℕ) (s : Setup) (es : List Event) (e : readJournal jou
   shown : Shows (statusOn journal) (replay s es)
   shown = demand-2 .shown (Ask ReadStatus) journal s es reads (ap readJournal (demand-1 .queryKept ReadStatus journal) ∙ e)
 
-  -- (the newest engine's are at any m the whole year's)
+  -- (used for its field `newest`, which holds whatever m is: the year at its newest engine is the whole year)
   work : FinerWork 1 (replay s es)
   work = finer-work s es 1 (omega arith)
 
@@ -60,7 +60,7 @@ module _ (journal : List ℕ) (s : Setup) (es : List Event) (e : readJournal jou
   finer-journal : (m : ℕ) → 1 ≤ m → FinerJournal m journal s es
   finer-journal m pos = record { calculated = calculated; finer = finer-work s es m pos }
 
--- a journal that holds no year
+-- on a journal that holds no year, status and marks are refused
 before-setup : (journal : List ℕ) → length journal ≡ 544 → readJournal journal ≡ NoSetup → BeforeSetup journal
 unfolding answer
 before-setup journal n e = record { status = rw (status-none journal n e); marks = λ size. marks-none journal n size e }

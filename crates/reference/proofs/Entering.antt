@@ -1,4 +1,4 @@
--- The events of an accepted journal could have been entered: an entry whose event is admissible, its readings in range, is accepted.
+-- The events of an accepted journal could have been entered: an entry with an admissible event, and readings in range, is accepted.
 use mathlib.Core.Path.{_≡_}
 use mathlib.Core.Bool.{true, false, not, _&&_, _||_, and-eq-true-iff}
 use mathlib.Core.List.{List}
@@ -25,7 +25,7 @@ module _ (journal : List ℕ) (s : Setup) (es : List Event) (e : readJournal jou
   abbrev p : Progress
   p = replay s es
 
-  -- what an admissible event says of 8 and 9
+  -- if an event is admissible, refusals 8 and 9 do not apply
   open-year : (event : Event) → admissible p event ≡ true → (closed p ≡ false) × (eventsFull p ≡ false)
   unfolding admissible
   open-year event a =

@@ -1,4 +1,4 @@
--- What the definitions give where a call is accepted and where it is refused, and which calls are accepted.
+-- What the definitions give if a call is accepted and if it is refused, and which calls are accepted.
 use mathlib.Core.Path.{_≡_, refl, ap, _∙_}
 use mathlib.Core.Logic.{_≢_}
 use mathlib.Core.Bool.{Bool, true, false, cond, true≢false}
@@ -38,7 +38,7 @@ pub held-year : (model : Model) → noSetup model ≡ false → (s : Setup) × (
 held-year NoSetup h = absurd (true≢false h)
 held-year (Year s es) h = (s, es, refl)
 
--- the answer, and what it tells
+-- the answer of an accepted and of a refused call, and its outcome
 module _ (call : Call) (journal : List ℕ) where
   abbrev status : Status
   status = statusOf (readJournal (journalAfter call journal))
@@ -63,7 +63,7 @@ module _ (call : Call) (journal : List ℕ) where
       by true e = rw (eqb-true number 0 e)
       by false e = refl
 
--- of an accepted call: the journal has 544 bytes, and it holds a year but for a setup
+-- if a call is accepted, the journal has 544 bytes and, unless the call is a setup, holds a year
 module _ (call : Call) (journal : List ℕ) (h : refusalOn call journal ≡ 0) where
   no : (r : ℕ) → applies (refusalsOn call journal) r ≡ false
   no = not-refused (length journal) call (readJournal journal) h
@@ -79,12 +79,12 @@ module _ (call : Call) (journal : List ℕ) (h : refusalOn call journal ≡ 0) w
   pub accepted-refusal : refusal 544 call (readJournal journal) ≡ 0
   accepted-refusal = rw accepted-size at h
 
-  -- it is a step of the model
+  -- an accepted call is a step of the model
   pub accepted-reads : readJournal (journalAfter call journal) ≡ accepted call (readJournal journal)
   unfolding stepModel
   accepted-reads = stored-calls .step journal accepted-size call .reads ∙ rw (eq-eqb (refusal 544 call (readJournal journal)) 0 accepted-refusal)
 
--- of an accepted entry: its event is admissible, and there is a slot for it
+-- if an entry is accepted, its event is admissible and there is a slot for it
 module _ (entry : Entry) (journal : List ℕ) (s : Setup) (es : List Event) (e : readJournal journal ≡ Year s es) (h : refusalOn (Enter entry) journal ≡ 0) where
   pub entry-admissible : admissible (replay s es) (eventOf (replay s es) entry) ≡ true
   entry-admissible = let a = accepted-refusal (Enter entry) journal h in admitted s es entry (rw e at a)
@@ -96,7 +96,7 @@ module _ (entry : Entry) (journal : List ℕ) (s : Setup) (es : List Event) (e :
 pub year-size : (journal : List ℕ) (s : Setup) (es : List Event) → readJournal journal ≡ Year s es → length journal ≡ 544
 year-size journal s es e = let j = demand .accepted journal s es e in ap length (j .stored) ∙ demand .size s es (j .valid)
 
--- status and marks on 544 bytes: accepted where they hold a year and the output has room, otherwise refused by 7
+-- status and marks on 544 bytes: accepted if these hold a year and the marks fit the output; refused by 7 if they hold none
 module _ (journal : List ℕ) (n : length journal ≡ 544) where
   pub status-accepted : noSetup (readJournal journal) ≡ false → refusalOn (Ask ReadStatus) journal ≡ 0
   unfolding refusal refusals

@@ -1,4 +1,4 @@
--- What a public call promises of its answer and of the journal, from its two equations.
+-- What a public call promises about its answer and the journal, from its two equations.
 use mathlib.Core.Path.{_≡_, sym, ap, _∙_}
 use mathlib.Core.List.{List}
 use Prim.Native.Nat.{ℕ}
@@ -9,7 +9,7 @@ use Rattle.reference.specs.Answers.{refusalOn, journalAfter, answer, out
 use Rattle.reference.proofs.Given.{refused-answer, answer-outcome}
 use Rattle.reference.proofs.Demand1.{demand-1}
 
--- the answer, what it tells, and the journal that is left
+-- the answer, its outcome, and the journal that is left
 abbrev pub Promised : Call → List ℕ → Answer → List ℕ → Type 0
 Promised call journal r left = (r ≡ answer call journal) × ((outcomeOf r ≡ outcome call journal) × (left ≡ journalAfter call journal))
 

@@ -47,7 +47,7 @@ module _ (journal : List ℕ) (n : length journal ≡ 544) where
   unfolding journalAfter stepModel
   call-holds call = rw n (by-refusal call (eqb (refusal 544 call (readJournal journal)) 0) refl)
 
--- a list of calls, from a buffer of zeros on
+-- a list of calls, starting from a buffer of zeros
 calls-hold : (calls : List Call) → Holds (journalOf calls) (modelOf calls)
 calls-hold [] = record { size = refl; reads = cases .readZeros }
 calls-hold (call ∷ calls) =

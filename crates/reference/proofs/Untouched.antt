@@ -16,13 +16,13 @@ use Rattle.reference.specs.Stored.{Holds}
 use Rattle.reference.proofs.WithSetup.{step-has}
 use Rattle.reference.proofs.Stored.{stored-calls}
 
--- a call that leaves the model without a setup found it so
+-- a call that leaves the model without a setup found it without one
 was-none : (call : Call) (model : Model) → stepModel call model ≡ NoSetup → model ≡ NoSetup
 was-none call NoSetup e = refl
 was-none call (Year s es) e = absurd (false≢true (sym (step-has call (Year s es) refl) ∙ ap noSetup e))
 
 module _ (journal : List ℕ) (holds : Holds journal NoSetup) where
-  -- and it wrote nothing
+  -- and such a call wrote nothing
   leaves : (call : Call) → stepModel call NoSetup ≡ NoSetup → journalAfter call journal ≡ journal
   unfolding journalAfter stepModel
   leaves (SetUp s) e = rw (holds .size, holds .reads) (by (eqb (refusal 544 (SetUp s) NoSetup) 0) e)

@@ -1,4 +1,4 @@
--- The event of an accepted entry is admissible, and so every list of calls leaves the reference model with a year that could have been entered.
+-- The event of an accepted entry is admissible, so a year that any list of calls leaves in the reference model could have been entered.
 use mathlib.Core.Path.{_≡_, refl}
 use mathlib.Core.Bool.{true, false, not, and-eq-true-iff}
 use mathlib.Core.List.{List, [], _∷_}
@@ -27,19 +27,19 @@ pub refusals-numbered : (size : ℕ) (call : Call) (model : Model) → Numbered 
 unfolding refusals
 refusals-numbered size call model = omega arith
 
--- of a call that is not refused, no row applies
+-- if a call is not refused, no row applies to it
 pub not-refused : (size : ℕ) (call : Call) (model : Model) → refusal size call model ≡ 0 → (r : ℕ) → applies (refusals size call model) r ≡ false
 unfolding refusal
 not-refused size call model h r =
     none-applies (refusals size call model) r (first-none (refusals size call model) (refusals-numbered size call model) h)
 
--- an event is admissible by 8, by 9 and by what its kind asks for
+-- an event is admissible if 8 and 9 do not apply and it meets the conditions of its kind
 admissible-by : (p : Progress) (e : Event) → closed p ≡ false → eventsFull p ≡ false → fits p e ≡ true → admissible p e ≡ true
 unfolding admissible
 admissible-by p e running room fit = and-true (and-true (false-not running) (false-not room)) fit
 
 module _ (s : Setup) (es : List Event) where
-  -- what the rows say of an entry that is not refused, by their numbers
+  -- if an entry is not refused, the row with number r does not apply to it
   no : (entry : Entry) → refusal 544 (Enter entry) (Year s es) ≡ 0 → (r : ℕ) → applies (refusals 544 (Enter entry) (Year s es)) r ≡ false
   no entry h = not-refused 544 (Enter entry) (Year s es) h
 
@@ -65,7 +65,7 @@ module _ (s : Setup) (es : List Event) where
   unfolding refusals
   admitted entry h = admissible-by (replay s es) (eventOf (replay s es) entry) (no entry h 8) (no entry h 9) (entry-fits entry h)
 
--- so a model stays one that could have been entered
+-- so a model's year remains one that could have been entered
 abbrev pub ValidModel : Model → Type 0
 ValidModel NoSetup = Unit {0}
 ValidModel (Year s es) = valid s es ≡ true

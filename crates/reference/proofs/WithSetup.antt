@@ -9,7 +9,7 @@ use Rattle.reference.specs.Call.{Call, SetUp, Enter, Ask, isSetup}
 use Rattle.reference.specs.Refusals.{refusal}
 use Rattle.reference.specs.Model.{accepted, stepModel, modelOf, setupAccepted}
 
--- no call takes a setup away
+-- no call removes a setup
 pub accepted-has : (call : Call) (model : Model) → noSetup model ≡ false → noSetup (accepted call model) ≡ false
 accepted-has (SetUp s) model h = refl
 accepted-has (Enter entry) NoSetup h = h
@@ -33,7 +33,7 @@ model-has-setup (call ∷ calls) h =
     either-true (isSetup call && eqb (refusal 544 call (modelOf calls)) 0) (setup-has call (modelOf calls))
     (λ before. step-has call (modelOf calls) (model-has-setup calls before)) h
 
--- and without one no call gives a setup
+-- and no other call than an accepted setup adds one
 step-none : (call : Call) → (isSetup call && eqb (refusal 544 call NoSetup) 0) ≡ false → stepModel call NoSetup ≡ NoSetup
 unfolding stepModel
 step-none (SetUp s) h = rw h

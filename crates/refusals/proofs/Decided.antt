@@ -1,4 +1,4 @@
--- The decision on an entry from the parts of the table: the rows that every entry may meet, and then its own.
+-- The decision on an entry, from the parts of the table: the rows shared by all entries, and then its own.
 use mathlib.Core.Path.{_≡_, sym, ap, _∙_}
 use mathlib.Core.List.{List}
 use Prim.Native.Nat.{ℕ}
@@ -14,7 +14,7 @@ use Rattle.refusals.specs.Parts.{entryRows}
 use Rattle.refusals.specs.Decisions.{decision, decisionOn}
 use Rattle.refusals.proofs.Parts.{unfitStandards, own, entry-parts, entry-passed}
 
--- a table asked part by part: a row that applies decides, whatever the later rows say; where none applies, the later rows decide
+-- a table read in two parts: a row of the first part that applies decides, whatever the later rows say; if none applies, the later rows decide
 module _ (rows : List Row) (later : ℕ) (e : Event) where
   pub refused-by : (number : ℕ) → number ≡ first rows 0 → (number ≡ 0 → ⊥) → Refuse number ≡ decision (first rows later) e
   refused-by number n h = let f : first rows 0 ≡ 0 → ⊥ = λ z. h (n ∙ z) in rw (n, first-kept rows later f, ne-eqb (first rows 0) 0 f)
@@ -22,7 +22,7 @@ module _ (rows : List Row) (later : ℕ) (e : Event) where
   pub passed-on : Numbered rows → first rows 0 ≡ 0 → decision later e ≡ decision (first rows later) e
   passed-on n h = ap (λ r. decision r e) (sym (first-passed rows later n h))
 
--- an entry: the rows that every entry may meet, and then its own
+-- an entry: the rows shared by all entries, and then its own
 module _ (entry : Entry) (journal : List ℕ) where
   abbrev shared : List Row
   shared = entryRows (unfitStandards entry) journal

@@ -1,4 +1,4 @@
--- The table of refusals in parts, as the code asks them: the rows of status and then 16; the rows that every entry may meet and then its own.
+-- The table of refusals in parts, as the code tests them: the rows of status and then 16; the rows shared by all entries, and then an entry's own.
 use mathlib.Core.Path.{_≡_, refl, sym, _∙_}
 use mathlib.Core.Bool.{Bool, false, cond, not}
 use mathlib.Core.List.{List}
@@ -45,7 +45,7 @@ module _ (size : ℕ) (journal : List ℕ) where
       rw (← year (λ x. ltb size (2 * length (x .tested))))
       (sym (first-passed (statusRows journal) (first (from 16 table) 0) (status-numbered journal) none))
 
--- ---- an entry: the rows that every entry may meet, before 10, and then its own, from 10 on
+-- ---- an entry: the rows shared by all entries, before 10, and then its own, from 10 on
 
 -- the test of row 5
 abbrev pub unfitStandards : Entry → Bool
@@ -55,7 +55,7 @@ module _ (entry : Entry) (journal : List ℕ) where
   abbrev shared : List Row
   shared = entryRows (unfitStandards entry) journal
 
-  -- what its own rows say
+  -- the number that its own rows give
   abbrev pub own : ℕ
   own = first (from 10 (refusalsOn (Enter entry) journal)) 0
 
@@ -66,7 +66,7 @@ module _ (entry : Entry) (journal : List ℕ) where
   shared-numbered : Numbered shared
   shared-numbered = omega arith
 
-  -- where none of them applies a year is held, and its own rows decide
+  -- if none of the shared rows applies, the journal holds a year, and the entry's own rows decide
   module _ (none : first shared 0 ≡ 0) where
     pub entry-held : noSetup (readJournal journal) ≡ false
     entry-held = none-applies shared 7 (first-none shared shared-numbered none)

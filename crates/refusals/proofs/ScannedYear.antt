@@ -1,4 +1,4 @@
--- What a scan tells of the year that a journal holds, as the table of refusals asks it.
+-- What a scan says about the year in a journal, in the form that the table of refusals needs.
 use mathlib.Core.Path.{_≡_, refl, sym, ap, _∙_}
 use mathlib.Core.List.{List}
 use mathlib.Core.Bool.{Bool, true, false, not, true≢false}
@@ -10,7 +10,7 @@ use Rattle.progress.specs.State.{progressOf, Consistent}
 use Rattle.slots.specs.declared.Scanned.{Scanned}
 use Rattle.slots.specs.Scanned.{replayed, ScannedAs}
 
--- what is said of a model and, of its years, is a figure of their progress
+-- a function of models that, for a year, is a figure of its progress: if the model has a setup, it is that figure
 of-year : {A : Type 0} (f : Model → A) (figure : Progress → A) → ((s : Setup) (es : List Event) → f (Year s es) ≡ figure (replay s es))
     → (model : Model) (p : Progress) → noSetup model ≡ false → p ≡ replayed model → f model ≡ figure p
 of-year f figure same NoSetup p h e = absurd (true≢false h)
@@ -24,7 +24,7 @@ module _ (scanned : Scanned) (model : Model) (t : ScannedAs scanned model) where
       by true e = rw e
       by false e = rw e
 
-  -- where a year is held, the state stands for it
+  -- if the model holds a year, the scanned state represents it
   module _ (held : noSetup model ≡ false) where
     pub scanned-consistent : Consistent (scanned .progress)
     scanned-consistent = t .consistent (t .accepted ∙ ap not held)

@@ -1,4 +1,4 @@
--- Text at the front of an output as a reply, and the marks as one.
+-- Text at the front of an output, as a reply; and the reply with the marks.
 use mathlib.Core.Path.{_≡_, refl}
 use mathlib.Core.List.{List, [], _∷_}
 use Prim.Native.Nat.{ℕ, zero, suc, _+_, _≤_, _<_}
@@ -19,7 +19,7 @@ pub front-some : (n : ℕ) → (n ≡ 0 → ⊥) → marksFront n ≡ text "OK "
 front-some zero h = absurd (h refl)
 front-some (suc n) h = refl
 
--- marks three bytes from the front, and what stands in front of them put after them, are the reply with the marks
+-- writing the marks three bytes from the front, and then what comes before them, gives the reply with the marks
 pub marks-replied : (before marks : List ℕ) → 96 ≤ length before → length marks ≤ 80
     → Replied before (marksReply marks) (put (put before 3 marks) 0 (marksFront (length marks))) (length (marksFront (length marks)) + length marks)
 marks-replied before [] h k = record { out = rw (put-none before 3); size = refl; fits = omega arith }

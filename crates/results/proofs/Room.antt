@@ -1,4 +1,4 @@
--- What a rounded quotient and a sum of rounded readings need of room, and the sum as a loop takes it from the front.
+-- Upper bounds on a rounded quotient, which show that it fits; and a sum of rounded readings, taken from the front as a loop does.
 use mathlib.Core.Path.{_≡_, ap}
 use mathlib.Core.List.{List, map}
 use Prim.Native.Nat.{ℕ, _+_, _*_, _/_, _%_, _≤_, _<_}
@@ -18,7 +18,7 @@ nearest-le a b =
     by-test (λ q. q ≤ a / b + 1) (ltb (2 * (a % b)) b) _ _ (λ _. omega arith)
     (λ _. by-test (λ q. q ≤ a / b + 1) (ltb b (2 * (a % b))) _ _ (λ _. omega arith) (λ _. omega (arith, mod-lt (a / b) {m = 2} (lit< tt))))
 
--- a remainder that is not 0 leaves room for one more than the quotient
+-- if the remainder is not 0, the quotient plus one is at most the dividend
 pub quotient-room : (a b : ℕ) → 1 ≤ b → 1 ≤ a % b → a / b + 1 ≤ a
 quotient-room a b hb h = omega (arith, div-add-mod a b, mul-le-mul-right (a / b) hb)
 

@@ -23,14 +23,14 @@ module _ (a b : ℕ) where
   unfolding nearestEven
   half h = simp (le-ltb (2 * (a % b)) b (omega arith), le-ltb b (2 * (a % b)) (omega arith))
 
--- q is at most a half from a / b, and even where it is a half from it, on either side: the same as `Nearest`, without other numbers
+-- q is at most a half from a / b, and even if exactly a half from it, on either side: equivalent to `Nearest`, without quantifying over other numbers
 record Half (a b q : ℕ) : Type 0 where
   pub low : 2 * (b * q) ≤ 2 * a + b
   pub high : 2 * a ≤ 2 * (b * q) + b
   pub above : 2 * (b * q) ≡ 2 * a + b → q % 2 ≡ 0
   pub below : 2 * a ≡ 2 * (b * q) + b → q % 2 ≡ 0
 
--- the three cases on the remainder, with the quotient and the remainder of a division as numbers
+-- case split on the remainder: below half of b, above it, equal to it; q is the quotient of the division, m its remainder
 half-down : (a b q m : ℕ) → b * q + m ≡ a → 2 * m < b → Half a b q
 half-down a b q m e h = record { low = omega arith; high = omega arith; above = λ t. absurd (omega arith); below = λ t. absurd (omega arith) }
 
@@ -38,7 +38,7 @@ half-up : (a b q m : ℕ) → b * q + m ≡ a → m < b → b < 2 * m → Half a
 half-up a b q m e l h =
     record { low = omega arith; high = omega arith; above = λ t. absurd (omega arith); below = λ t. absurd (omega arith) }
 
--- p is what a half-way quotient q is rounded up by
+-- half-way, the quotient q is rounded up by p, its parity
 half-half : (a b q m p : ℕ) → b * q + m ≡ a → 2 * m ≡ b → q % 2 ≡ p → (p ≡ 0) ⊎ (p ≡ 1) → Half a b (q + p)
 half-half a b q m p e h k d = ⊎-elim (λ z. at (ap (λ (x : ℕ). b * x) z) z) (λ z. at-1 (ap (λ (x : ℕ). b * x) z) z) d
   where
@@ -91,7 +91,7 @@ module _ (a b : ℕ) (hb : 1 ≤ b) where
             (λ f. absurd (n f))) (compared p q);
       }
 
-  -- and the other way round, by the numbers next to it
+  -- the converse, by comparison with the numbers next to q
   nearest-half : (q : ℕ) → Nearest a b q → Half a b q
   nearest-half zero n =
       record {
@@ -116,11 +116,11 @@ module _ (a b : ℕ) (hb : 1 ≤ b) where
       let next : p ≡ q + 1 = eq-of-mul-eq-mul-left b hb p (q + 1) (omega arith) in
       omega (arith, nq .below low, np .above high)
 
-  -- nearestEven a b is the nearest whole number to a / b, the even one where two are as near
+  -- nearestEven a b is the whole number nearest to a / b, the even one if two are equally near
   pub nearest : Nearest a b (nearestEven a b)
   nearest = half-nearest (nearestEven a b) (rounds-half a b hb)
 
-  -- nothing else is
+  -- no other number is
   pub nearest-unique : (q p : ℕ) → Nearest a b q → Nearest a b p → q ≡ p
   nearest-unique q p nq np =
       let hq = nearest-half q nq in

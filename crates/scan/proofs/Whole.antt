@@ -1,4 +1,4 @@
--- The tests of a whole buffer, as the code makes them: size, number of events, header and unused slots, and then the events.
+-- The tests of a whole buffer, in the code's order: size, number of events, header and unused slots, and then the events.
 use mathlib.Core.Path.{_≡_, refl, sym, _∙_}
 use mathlib.Core.Bool.{Bool, true, false, _&&_, true≢false, and-eq-true-iff}
 use mathlib.Core.List.{List}

@@ -1,4 +1,4 @@
--- The header of a journal, read from its first 32 bytes: the bytes that a setup or the number of events says come back as they were.
+-- The header of a journal, its first 32 bytes: the code's tests are the definition's, since the setup and the number of events in it encode to the same bytes.
 use mathlib.Core.Path.{_≡_}
 use mathlib.Core.Bool.{_&&_, and-true, and-assoc}
 use mathlib.Core.List.{List}
@@ -14,7 +14,7 @@ use Rattle.journal.specs.Acceptance.{isHeader}
 use Rattle.setup_decoder.specs.Parts.{isStart}
 
 module _ (journal : List ℕ) (long : 32 ≤ length journal) where
-  -- the code's tests of the first four bytes, and of the whole header
+  -- the code's tests of the first four bytes, and of the whole header, are the definitions
   pub start-tests : (eqb (getD journal 0 0) 80 && eqb (getD journal 1 0) 76 && (eqb (getD journal 2 0) 84 && eqb (getD journal 3 0) 1)) ≡ isStart journal
   start-tests =
       rw (

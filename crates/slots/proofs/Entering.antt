@@ -1,4 +1,4 @@
--- The slots entered one after another: what the state is after the first of them, and what one more tells.
+-- The slots entered one after another: the state after the first j slots, and what one more slot changes.
 use mathlib.Core.Path.{_≡_, refl, sym, ap, subst, _∙_}
 use mathlib.Core.Bool.{Bool, true, false, _&&_, true≢false, and-eq-true-iff}
 use mathlib.Core.List.{List}
@@ -23,7 +23,7 @@ use Rattle.progress.specs.State.{progressOf, Consistent}
 use Rattle.progress.proofs.Steps.{Represents}
 use Rattle.slots.specs.Scanned.{ScannedAs, Entered, entered}
 
--- where one slot does not enter, the slots up to a later one do not
+-- if one slot does not enter, the slots up to a later one do not all enter
 later : (journal : List ℕ) (j n : ℕ) → j < n → entersAt journal j ≡ false → entersUpTo journal n ≡ true → ⊥
 later journal j zero l f h = omega arith
 later journal j (suc n) l f h =
@@ -50,18 +50,18 @@ module _ (journal : List ℕ) (n : ℕ) where
   unfolding entered
   all-entered h = rw h
 
-  -- a slot that does not enter ends it
+  -- with a slot that does not enter, the buffer holds no year
   pub stopped : (j : ℕ) → j < n → entersAt journal j ≡ false → entered journal n ≡ NoSetup
   stopped j l f = none-entered (both-fail (setupInRange (setupIn journal)) (entersUpTo journal n) (later journal j n l f))
 
-  -- the last slot was entered
+  -- once the last slot is entered, the state is that of the year held
   pub finished : (j : ℕ) (p : State) → j ≤ n → n ≤ j → Entered journal j p → ScannedAs (record { accepted = true; progress = p }) (entered journal n)
   finished j p l m u =
       let same : j ≡ n = omega arith in
       let v = subst (λ k. Entered journal k p) same u in
       rw (all-entered (and-true (v .setup) (v .enters))) (record { accepted = refl; year = v .stands; consistent = λ _. v .consistent })
 
--- the setup and what the code found of it
+-- the setup in the header, and whether the code found it in range
 module _ (journal : List ℕ) (s : Setup) (r : Bool) (e : s ≡ setupIn journal) (t : r ≡ setupInRange s) where
   setup-is : setupInRange (setupIn journal) ≡ r
   setup-is = sym (ap setupInRange e) ∙ sym t
@@ -79,13 +79,13 @@ module _ (journal : List ℕ) (j : ℕ) (p : State) (u : Entered journal j p) wh
   abbrev part : List ℕ
   part = take (length journal - slotPlace j) (drop (slotPlace j) journal)
 
-  -- what the code finds of it: the event, and whether it enters
+  -- what the code finds in the slot: its event, and whether it enters
   pub found : (e : Event) (slot fits both : Bool) → e ≡ eventIn part → slot ≡ isSlot part → fits ≡ admissible (progressOf p) e → both ≡ (slot && fits)
       → (e ≡ eventIn (drop (slotPlace j) journal)) × (both ≡ entersAt journal j)
   unfolding entersAt
   found e slot fits both he hs hf hb = let rest = part-from journal (slotPlace j) in (rw (← rest) he, rw (hb, hs, hf, he, rest, u .stands))
 
-  -- an event that enters is admissible, and a state that stands for the year with it is the next
+  -- an event that enters is admissible, and a state that represents the year with it is the next state
   module _ (e : Event) (he : e ≡ eventIn (drop (slotPlace j) journal)) (t : entersAt journal j ≡ true) where
     pub admitted : admissible (progressOf p) e ≡ true
     unfolding entersAt

@@ -1,4 +1,4 @@
--- The sums with one engine more: what they are, and that they fit.
+-- The sums with one more engine: their values, and that they fit.
 use mathlib.Core.Path.{_≡_}
 use mathlib.Core.List.{List, _∷_}
 use Prim.Native.Nat.{ℕ, _+_, _-_, _*_, _≤_}
@@ -12,7 +12,7 @@ use Rattle.statistics.specs.Ranges.{HistoryInRange}
 use Rattle.spread.specs.Ranges.{SumsInRange}
 use Rattle.statistics.proofs.Bounds.{total-squared, total-le, squares-le}
 
--- sums with a result x more
+-- the sums with one more result, x
 abbrev pub with-result : Sums → ℕ → Sums
 with-result s x =
     record {
@@ -30,7 +30,7 @@ pub sums-next : (s : Sums) (x : ℕ) (h : List Test) (t : ℕ) → s ≡ sums h 
 unfolding variation
 sums-next s x h t e = rw e (same (omega arith) (omega arith) (omega arith) (omega arith))
 
--- the room that they need
+-- the upper bounds under which the new sums fit
 pub record Room (s : Sums) (x : ℕ) : Type 0 where
   pub few : s .n ≤ 39
   pub total : s .total ≤ 780000

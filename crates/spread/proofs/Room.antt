@@ -1,4 +1,4 @@
--- A deviation in code: the products that it takes fit 64 bits, and the root of the quotient with a test of its square gives s and e.
+-- A deviation in code: its products fit 64 bits, and the root of the quotient, with a test of its square, gives s and e.
 use mathlib.Core.Path.{_≡_, sym, _∙_}
 use Prim.Native.Nat.{ℕ, _+_, _-_, _*_, _/_, _^_, _≤_, _<_}
 use native.Mathlib.Nat.{le-trans, lt-of-le-of-lt, lt-of-not-le, not-le-of-lt, sub-le, mul-le-mul, mul-le-mul-left, le-mul-of-pos-right, div-lt-iff-lt-mul}
@@ -24,7 +24,7 @@ module _ (k i v : ℕ) (h : DeviationInRange k i v) where
   pub divisor-fits : i * (i - 1) < 2 ^ 64
   divisor-fits = omega (arith, mul-le-mul (h .few) (le-trans (sub-le i 1) (h .few)))
 
-  -- s as it is found: the root of the whole quotient
+  -- s as the code finds it: the root of the integer quotient
   module _ (s : ℕ) (e : s ≡ root 1 ((k * k * v) / (i * (i - 1)))) where
     is-floor : s ≡ deviation k i v .floor
     is-floor = e ∙ sym (deviation-root k i v (h .two))
@@ -47,6 +47,6 @@ module _ (k i v : ℕ) (h : DeviationInRange k i v) where
     pub inexact : (s * s * (i * (i - 1)) ≡ k * k * v → ⊥) → record { floor = s; inexact = 1 } ≡ deviation k i v
     inexact t = sym (deviation-unique k i v (h .two) s passes next-fails ∙ rw (ne-eqb _ _ t))
 
-  -- s has room for a factor of 20
+  -- s is below 2 ^ 32, so that 20 × s fits
   pub deviation-lt : deviation k i v .floor < 4294967296
   deviation-lt = lt-of-not-le (λ l. not-le-of-lt (root-fits (deviation k i v .floor) (deviation-root k i v (h .two))) (mul-le-mul l l))

@@ -20,7 +20,7 @@ journal-on [] b line journal = refl
 journal-on (x ∷ xs) b line journal = journal-on xs b (heldAt x line) (journalAt x line journal)
 
 module _ {line journal held left held2 left2 : List ℕ} where
-  -- bytes after others
+  -- bytes taken after other bytes
   pub onto : (a b : List ℕ) → Kept a line journal held left → Kept b held left held2 left2 → Kept (a ++ b) line journal held2 left2
   onto a b k m =
       record {
@@ -28,12 +28,12 @@ module _ {line journal held left held2 left2 : List ℕ} where
         leaves = m .leaves ∙ rw (k .holds, k .leaves) (sym (journal-on a b line journal));
       }
 
-  -- one byte more of a piece
+  -- one more byte of a piece
   pub one-more : (piece : List ℕ) (i : ℕ) → i < length piece → Kept (take i piece) line journal held left
       → (held2 ≡ heldAt (getD piece i 0) held) × (left2 ≡ journalAt (getD piece i 0) held left) → Kept (take (i + 1) piece) line journal held2 left2
   one-more piece i h k t = rw (add-one, take-suc piece i 0) (onto (take i piece) (getD piece i 0 ∷ []) k (record { holds = t .0; leaves = t .1 }))
 
--- some input was taken
+-- what was taken is some input
 module _ {piece line journal held left : List ℕ} {most : ℕ} where
   pub some-input : (all : Bool) → Fetched most all piece line journal held left → (input : List ℕ) × Kept input line journal held left
   some-input true f = (f .before ++ piece, onto (f .before) piece (record { holds = refl; leaves = refl }) (f .last))
@@ -41,7 +41,7 @@ module _ {piece line journal held left : List ℕ} {most : ℕ} where
       let front = take (f .last .0) piece in
       (f .before ++ front, onto (f .before) front (record { holds = refl; leaves = refl }) (f .last .1))
 
--- from document 01's start: the input has ended and what is held of it is answered, or it has not
+-- from document 01's start: either the input has ended and the line held is answered, or it has not ended
 module _ {line journal held left : List ℕ} (empty : line ≡ []) (zeroed : journal ≡ zeros 544) (k : (input : List ℕ) × Kept input line journal held left) where
   started : Kept (k .0) [] (zeros 544) held left
   started = rw (empty, zeroed) at (k .1)

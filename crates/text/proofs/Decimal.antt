@@ -20,7 +20,7 @@ few-digits i k n h l f =
 pub twenty-digits : (k n : ℕ) → n < 2 ^ 64 → Fewest 10 1 n k → k ≤ 20
 twenty-digits k n l f = few-digits 20 k n (omega arith) (omega arith) f
 
--- from ten on, a tenth of the number has one digit less
+-- if n is at least ten, n / 10 has one digit less
 module _ (n k : ℕ) (h : 10 ≤ n) (f : Fewest 10 1 n (suc k)) where
   some-left : 1 ≤ k
   some-left = pos-of-ne-zero (λ z. omega (arith, rw z at (f .1)))

@@ -1,4 +1,4 @@
--- Text put after text.
+-- Text written after text.
 use mathlib.Core.Path.{_∙_}
 use mathlib.Core.List.{List, _++_}
 use Prim.Native.Nat.{ℕ, _≤_}
@@ -7,7 +7,7 @@ use lib.ListN.{length, length-append}
 use Rattle.buffers.proofs.Lists.{put-put}
 use Rattle.text.specs.Written.{Written}
 
--- text after text is the two as one; and at the front of an output
+-- writing one text after another writes the two joined; and the same at the front of an output
 pub then : {before after last xs ys : List ℕ} {place middle end : ℕ} → Written before place xs after middle → Written after middle ys last end
     → place ≤ length before → Written before place (xs ++ ys) last end
 then {before} {after} {last} {xs} {ys} {place} {middle} {end} v w h =

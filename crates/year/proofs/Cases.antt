@@ -1,4 +1,4 @@
--- The worked cases of a year, and document 01's starred cases. Deviations are found by their laws; the rest is computed.
+-- The worked cases of a year, and document 01's starred cases. Deviations are proved by their laws; the rest is computed.
 use mathlib.Core.Path.{_≡_, refl}
 use lib.Dec.{lit<, lit≤}
 use Rattle.rounding.specs.Result.{nearestEven}
@@ -15,18 +15,18 @@ use Rattle.year.specs.Admissible.{closed, admissible}
 use Rattle.year.specs.Cases.{Cases}
 use Rattle.year.specs.StarredCases.{StarredCases}
 
--- 998, 1,071, 926 at m = 8
+-- the deviation of 998, 1,071, 926 at m = 8
 of-998-1071-926-finer : deviation 8192 3 31538 ≡ exactly 593924 1
 of-998-1071-926-finer = deviation-unique 8192 3 31538 (lit≤ tt) 593924 (lit≤ tt) (lit< tt)
 
--- 2,367, 3,236 and then 1,499
+-- the deviations of 2,367, 3,236 and then 1,499
 pub of-2367-3236 : deviation 1024 2 755161 ≡ exactly 629223 1
 of-2367-3236 = deviation-unique 1024 2 755161 (lit≤ tt) 629223 (lit≤ tt) (lit< tt)
 
 of-2367-3236-1499 : deviation 1024 3 4525754 ≡ exactly 889344 1
 of-2367-3236-1499 = deviation-unique 1024 3 4525754 (lit≤ tt) 889344 (lit≤ tt) (lit< tt)
 
--- 23, 23, 83 and then 83
+-- the deviations of 23, 23, 83 and then 83
 of-23-23-83 : deviation 1024 3 7200 ≡ exactly 35472 1
 of-23-23-83 = deviation-unique 1024 3 7200 (lit≤ tt) 35472 (lit≤ tt) (lit< tt)
 

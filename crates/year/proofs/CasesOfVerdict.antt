@@ -1,4 +1,4 @@
--- The verdict's rows against each other. Deviations are found by their laws; the rest is computed.
+-- Cases that set the verdict's rows against each other. Deviations are proved by their laws; the rest is computed.
 use mathlib.Core.Path.{_≡_, refl, _∙_}
 use mathlib.Core.Bool.{true, false}
 use mathlib.Core.List.{_∷_}
@@ -28,7 +28,7 @@ of-500-500-0 = deviation-unique 1024 3 500000 (lit≤ tt) 295603 (lit≤ tt) (li
 of-998-1071-900 : deviation 1024 3 44174 ≡ exactly 87863 1
 of-998-1071-900 = deviation-unique 1024 3 44174 (lit≤ tt) 87863 (lit≤ tt) (lit< tt)
 
--- a year in which no result is above its standard: the verdict is that of the rows after 7, 6 and 5
+-- a year in which no result is above its standard: the verdict comes from the rows after 7, 6 and 5
 pub at-standard : (p : Progress) → p .declared ≡ false → atStandard (history Hcnox (p .tested)) ≡ true → atStandard (history Co (p .tested)) ≡ true
     → verdict 1024 p ≡ first (drop 3 (verdictRows 1024 p)) 1
 unfolding verdict

@@ -1,4 +1,4 @@
--- A year takes no more events exactly if it was declared or a pollutant has failed at resolution 1,024: the two verdicts come first.
+-- A year takes no more events exactly if it was declared or a pollutant has failed at resolution 1,024: these two verdicts are tested first.
 use mathlib.Core.Path.{_≡_, refl}
 use mathlib.Core.Bool.{Bool, true, false, _||_}
 use Prim.Native.Nat.{ℕ}

@@ -1,4 +1,4 @@
--- Work at m beside the calculator's work, for a year: the marks in printed order, the verdict, the intervals.
+-- Work at m compared with the calculator's work, for a year: the marks in printed order, the verdict, the intervals.
 use mathlib.Core.Path.{_≡_, refl, sym, ap, _∙_}
 use mathlib.Core.Logic.{_≢_}
 use mathlib.Core.Bool.{Bool, true, false, cond, _||_, So, false≢true}
@@ -21,12 +21,12 @@ use Rattle.year.proofs.Replayed.{history-length}
 use Rattle.year.specs.Work.{atEngine}
 use Rattle.year.specs.FinerWork.{FinerWork}
 
--- lists that are related place by place, one after the other
+-- lists related element by element are still so when joined
 related-append : {R : Mark → Mark → Type 0} {l l′ n n′ : List Mark} → Forall₂ R l l′ → Forall₂ R n n′ → Forall₂ R (l ++ n) (l′ ++ n′)
 related-append Forall₂·nil s = s
 related-append (Forall₂·cons a r) s = Forall₂·cons a (related-append r s)
 
--- The rows of the verdict that look at marks, by their tests alone.
+-- The rows of the verdict that depend on marks, as plain Boolean tests.
 rows-finer : (declared f u f′ u′ : Bool) (rest : ℕ) → (So f → So f′) → (So (f′ || u′) → So (f || u)) → cond declared 7 (cond f 6 (cond u 5 rest)) ≢ 5
     → cond declared 7 (cond f′ 6 (cond u′ 5 rest)) ≡ cond declared 7 (cond f 6 (cond u 5 rest))
 rows-finer true f u f′ u′ rest a b n = refl
@@ -37,7 +37,7 @@ rows-finer false false false true u′ rest a b n = absurd (false≢true (b refl
 rows-finer false false false false true rest a b n = absurd (false≢true (b refl))
 rows-finer false false false false false rest a b n = refl
 
--- a test of some of the pollutants
+-- `some` over the pollutants is monotone in its test
 some-map : {f g : Pollutant → Bool} (qs : List Pollutant) → ((q : Pollutant) → So (f q) → So (g q)) → So (some f qs) → So (some g qs)
 some-map [] h t = t
 some-map (q ∷ []) h t = h q t

@@ -1,5 +1,5 @@
--- What one more event leaves as it was. "An amendment alters no N, mark or verdict already worked": every figure stays, at every resolution. One more
--- engine adds its two marks at the end and changes none.
+-- What one more event leaves unchanged. "An amendment alters no N, mark or verdict already worked": every figure stays, at every resolution. One more
+-- engine adds its two marks at the end and changes no other mark.
 use mathlib.Core.Path.{_≡_, refl}
 use mathlib.Core.List.{List, [], _∷_, _++_}
 use Prim.Native.Nat.{ℕ, _*_}

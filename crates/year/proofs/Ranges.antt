@@ -1,4 +1,4 @@
--- Every list of events that could have been entered keeps the ranges of a year.
+-- Every list of events that could have been entered keeps the year in its ranges.
 use mathlib.Core.Path.{_≡_, refl}
 use mathlib.Core.Bool.{Bool, true, not, _&&_, _||_, and-eq-true-iff}
 use mathlib.Core.List.{List, [], _∷_}
@@ -30,7 +30,7 @@ left a b h = and-eq-true-iff a b .0 h .0
 right : (a b : Bool) → (a && b) ≡ true → b ≡ true
 right a b h = and-eq-true-iff a b .0 h .1
 
--- a test of both pollutants is one of each
+-- if both pollutants pass a test, each does
 pub both-of : (test : Pollutant → Bool) → (test Hcnox && test Co) ≡ true → (q : Pollutant) → test q ≡ true
 both-of test h Hcnox = left (test Hcnox) (test Co) h
 both-of test h Co = right (test Hcnox) (test Co) h
@@ -38,7 +38,7 @@ both-of test h Co = right (test Hcnox) (test Co) h
 within-le : (low high x : ℕ) → within low high x ≡ true → x ≤ high
 within-le low high x h = leb-true x high (right (leb low x) (leb x high) h)
 
--- five tests, one by one
+-- the five parts of a conjunction
 conjuncts : (a b c d e : Bool) → (a && b && c && d && e) ≡ true → (a ≡ true) × (b ≡ true) × (c ≡ true) × (d ≡ true) × (e ≡ true)
 conjuncts a b c d e h =
     let w = and-eq-true-iff (a && b && c && d) e .0 h in
@@ -62,7 +62,7 @@ periods-later : (n : ℕ) (xs : List Tested) → PeriodsUpTo n xs → PeriodsUpT
 periods-later n [] r = tt
 periods-later n (x ∷ xs) r = (omega (arith, r .0), periods-later n xs (r .1))
 
--- a period has at most all engines
+-- a period has at most as many engines as the year
 pub tested-in-le : (n : ℕ) (xs : List Tested) → testedIn n xs ≤ length xs
 tested-in-le n [] = omega arith
 tested-in-le n (x ∷ xs) =
@@ -84,7 +84,7 @@ start-in-range s h =
       histories = λ q. record { few = omega arith; tests = tt };
     }
 
--- what an admissible event leaves room for
+-- an admissible event: fewer than 64 events are stored before it, and it fits
 module _ (p : Progress) (e : Event) (h : admissible p e ≡ true) where
   pub not-full : p .stored < 64
   unfolding admissible
@@ -95,7 +95,7 @@ module _ (p : Progress) (e : Event) (h : admissible p e ≡ true) where
   unfolding admissible
   fitting = right (not (closed p) && not (eventsFull p)) (fits p e) h
 
--- an engine that could be entered
+-- the bounds of an engine that could be entered
 pub record AdmittedEngine (p : Progress) (n r : ℕ) (xs : Pair) : Type 0 where
   pub number : n ≤ 65535
   pub readings : r ≤ 3

@@ -1,4 +1,4 @@
--- The bounds of a setup in range, so that its stored form and the code know what room its numbers need.
+-- Upper bounds on the numbers of a setup in range, by which they fit their stored form and the code's types.
 use mathlib.Core.Path.{_≡_}
 use mathlib.Core.Bool.{Bool, true, _&&_, and-eq-true-iff}
 use Prim.Native.Nat.{ℕ, _≤_}

@@ -1,4 +1,4 @@
--- A list of events that could have been entered is so without its newest event, and what was entered last was admissible.
+-- A list of events could have been entered exactly if it could have been without its newest event, and that event was admissible then.
 use mathlib.Core.Path.{_≡_}
 use mathlib.Core.Bool.{true, and-eq-true-iff}
 use mathlib.Core.List.{List, _∷_}

@@ -1,10 +1,10 @@
-//! Results and standards that lead to a wished mark at the next engine.
+//! Results and standards that lead to a wanted mark at the next engine.
 
 use crate::model::Pollutant;
 use crate::random::Random;
 use crate::readings::MAX_RESULT;
 
-/// C and H are told in 1/4,096 of a result unit.
+/// C and H are in units of 1/4,096 of a result unit.
 const FINE: f64 = 4_096.0;
 
 /// Results tried in the search for a mark '?'.
@@ -17,7 +17,7 @@ pub struct Aim {
     pub standard: u32,
 }
 
-/// An aim for the wished mark; it is met mostly, not always.
+/// An aim for the wanted mark; it mostly gives that mark, not always.
 pub fn aim(random: &mut Random, worker: &Pollutant, wish: u8) -> Aim {
     if wish == b'?'
         && let Some(found) = undecided(random, worker)
@@ -34,7 +34,7 @@ fn mark(worker: &Pollutant, aim: Aim) -> u8 {
     next.mark
 }
 
-/// Searches for C so near to H that the brackets do not decide. Now and then
+/// Searches for a C so near to H that the brackets do not decide. Now and then
 /// an aim that just misses this is kept.
 fn undecided(random: &mut Random, worker: &Pollutant) -> Option<Aim> {
     let reach = (24.0 + worker.n as f64) / FINE;
@@ -53,7 +53,7 @@ fn undecided(random: &mut Random, worker: &Pollutant) -> Option<Aim> {
     None
 }
 
-/// Some tens away from the standard where the mark turns.
+/// A standard some tens away from the one at which the mark changes.
 fn beside(random: &mut Random, worker: &Pollutant, wish: u8) -> Aim {
     let mut aim = Aim {
         result: 0,
@@ -90,7 +90,7 @@ fn around(random: &mut Random, worker: &Pollutant) -> u32 {
 }
 
 /// The standard at which C would equal H for this result, in real numbers:
-/// the last C, plus the result, less a quarter and five whole spreads.
+/// the last C, plus the result, less five and a quarter spreads.
 fn turning_point(worker: &Pollutant, result: u32) -> f64 {
     let x = f64::from(result);
     let n = worker.n as f64 + 1.0;

@@ -1,7 +1,7 @@
-//! A buffer to be lent: a part of a longer one, from any place on. What
-//! stands around the part is nobody's to read or write.
+//! A buffer to be lent: a part of a longer one, starting anywhere. Nobody may
+//! read or write what surrounds the part.
 
-/// The most that stands before the part, and what stands after it.
+/// The most elements before the part, and the number of those after it.
 pub const BEFORE: usize = 15;
 pub const AFTER: usize = 16;
 
@@ -13,7 +13,7 @@ pub struct Buffer<T> {
 }
 
 impl<T: Copy> Buffer<T> {
-    /// The part of `whole` from a place on, so long that `AFTER` are left.
+    /// The part of `whole` from `start` on, without the last `AFTER` elements.
     pub fn new(whole: Vec<T>, start: usize) -> Self {
         let length = whole.len() - start - AFTER;
         Buffer {
@@ -31,7 +31,7 @@ impl<T: Copy> Buffer<T> {
         &mut self.whole[self.start..self.start + self.length]
     }
 
-    /// What stands before the part, and after it.
+    /// What is before the part, and what is after it.
     pub fn around(&self) -> [&[T]; 2] {
         [
             &self.whole[..self.start],

@@ -1,4 +1,4 @@
-//! One case: the calls that a kind of input makes of a seed, on both sides.
+//! One case: the calls that a kind of input makes from a seed, on both sides.
 
 use std::panic;
 
@@ -10,13 +10,13 @@ use crate::twin::Twin;
 
 #[derive(Clone, Copy, Debug)]
 pub struct Case {
-    /// The place of its kind.
+    /// The index of its kind.
     pub kind: usize,
     pub seed: u64,
 }
 
 impl Case {
-    /// How the case is run again.
+    /// The arguments that run the case again.
     pub fn name(self) -> String {
         format!("--case {} {}", KINDS[self.kind].name, self.seed)
     }
@@ -24,8 +24,8 @@ impl Case {
     /// What its calls have met, or the first difference. With `trace` each call
     /// is printed.
     pub fn run(self, trace: bool) -> Result<Counts, Difference> {
-        // a twin leaves the case by unwinding, from however deep it found a
-        // difference; so does a side that panics
+        // a twin that finds a difference leaves the case by unwinding, from
+        // any depth; so does a side that panics
         panic::catch_unwind(|| self.calls(trace)).map_err(|cause| {
             let found = cause.downcast::<Difference>().map(|found| *found);
             found.unwrap_or_else(|_| Difference::panicked())

@@ -1,4 +1,4 @@
-//! What a run has met.
+//! Counts of what a run has met.
 
 use std::slice;
 
@@ -65,7 +65,7 @@ pub struct Counts {
     /// Calls by refusal, 0 for accepted, and by sort of call.
     refusals: [[u64; COLUMNS]; REFUSALS],
     verdicts: [u64; VERDICTS],
-    /// By pollutant: the newest marks told, and the marks written.
+    /// By pollutant: the newest marks reported, and the marks written.
     newest: [[u64; MARKS.len()]; 2],
     written: [[u64; MARKS.len()]; 2],
 }
@@ -75,7 +75,7 @@ impl Counts {
         self.kinds.iter().map(|(cases, _)| cases).sum()
     }
 
-    /// All this is one case of this kind.
+    /// Counts all this as one case of this kind.
     pub fn case(&mut self, kind: usize) {
         self.kinds[kind] = (1, self.calls);
     }

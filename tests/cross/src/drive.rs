@@ -44,7 +44,7 @@ impl<'a> Drive<'a> {
         true
     }
 
-    /// Enters an engine with readings toward these results.
+    /// Enters an engine with readings that aim at these results.
     fn engine(&mut self, results: [u32; 2]) -> bool {
         let number = self.year.free_number(self.random);
         let count = self.random.pick(&[1, 1, 2, 3]);

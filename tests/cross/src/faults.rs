@@ -39,7 +39,7 @@ pub fn call(twin: &mut Twin, random: &mut Random, rate: usize) -> u8 {
     }
 }
 
-/// Makes a random call on a journal of a wrong length, made of this one.
+/// Makes a random call on a journal of a wrong length, made from this one.
 pub fn call_on_wrong_length(twin: &mut Twin, random: &mut Random, rate: usize) {
     let kept = twin.journal().to_vec();
     let mut other = kept.clone();
@@ -88,7 +88,7 @@ pub fn standards(random: &mut Random, rate: usize) -> [u32; 2] {
     })
 }
 
-/// An engine's line. With a wrong count its readings may be odd in number.
+/// An engine's line. With a wrong count, the number of readings may be odd.
 pub fn engine_line(journal: &[u8], random: &mut Random, rate: usize) -> Vec<u8> {
     let mut numbers = vec![number(journal, random, rate)];
     let count = count(random, rate).min(8);

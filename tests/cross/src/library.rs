@@ -46,10 +46,10 @@ pub const REPLY: usize = 96;
 /// Words that the figures need: n, verdict, nine for each pollutant.
 pub const FIGURES: usize = 20;
 
-/// What `engine` and `status` return if the figures are too few.
+/// What `engine` and `status` return if there are too few words for figures.
 pub const TOO_FEW: u8 = 255;
 
-/// One key line; the reply's length.
+/// Carries out one key line; returns the reply's length.
 pub fn command(journal: &mut [u8], line: &[u8], reply: &mut [u8]) -> usize {
     // SAFETY: each pointer and length is that of one slice, and the slices
     // do not overlap.
@@ -65,7 +65,7 @@ pub fn command(journal: &mut [u8], line: &[u8], reply: &mut [u8]) -> usize {
     }
 }
 
-/// Enters an engine; 0 or the refusal.
+/// Enters an engine; returns 0 or the refusal.
 pub fn engine(
     journal: &mut [u8],
     number: u32,
@@ -89,7 +89,7 @@ pub fn engine(
     }
 }
 
-/// Reads the status; 0 or the refusal.
+/// Reads the status; returns 0 or the refusal.
 pub fn status(journal: &[u8], figures: &mut [u64]) -> u8 {
     // SAFETY: as in `command`; the journal is only read.
     unsafe {
@@ -102,7 +102,8 @@ pub fn status(journal: &[u8], figures: &mut [u64]) -> u8 {
     }
 }
 
-/// Writes the marks; 0 or the refusal. `written` is set to the bytes written.
+/// Writes the marks; returns 0 or the refusal, and sets `written` to the number
+/// of bytes written.
 pub fn marks(journal: &[u8], out: &mut [u8], written: &mut usize) -> u8 {
     // SAFETY: as in `status`; `written` is one word.
     unsafe {
@@ -116,7 +117,7 @@ pub fn marks(journal: &[u8], out: &mut [u8], written: &mut usize) -> u8 {
     }
 }
 
-/// The twenty words that a status or a refusal is told by.
+/// The twenty words that report a status or a refusal.
 pub fn words_of(answer: &Result<Status, u8>) -> [u64; FIGURES] {
     let mut words = [0; FIGURES];
     let Ok(status) = answer else {

@@ -9,9 +9,9 @@ const CALLS: u64 = 14_000_000;
 #[derive(Clone, Copy, Debug)]
 pub struct Options {
     pub seed: u64,
-    /// Go on until so many calls are made.
+    /// Go on until this many calls are made.
     pub calls: u64,
-    /// Repeat one case: the place of its kind, and its seed.
+    /// Repeat one case: the index of its kind, and its seed.
     pub case: Option<(usize, u64)>,
     /// Name each case before it is run.
     pub names: bool,

@@ -13,7 +13,7 @@ pub enum Call<'a> {
     Marks,
     /// A line with a reply buffer that is too small.
     LineShort(&'a [u8]),
-    /// An engine or a status with figures that are too few.
+    /// An engine or a status with too few words for the figures.
     EngineShort(u32, &'a [u32], &'a [u32]),
     StatusShort,
 }
@@ -36,20 +36,20 @@ impl fmt::Display for Call<'_> {
     }
 }
 
-/// A lent buffer after the call, with what stands around it.
+/// A lent buffer after the call, with what surrounds it.
 #[derive(Clone, PartialEq, Eq, Debug)]
 pub enum Lent {
     Bytes(Buffer<u8>),
     Words(Buffer<u64>),
 }
 
-/// All that a call tells but for the journal.
+/// All that a call gives back, except the journal.
 #[derive(Clone, PartialEq, Eq, Debug)]
 pub struct Outcome {
     /// The returned number: a length or a refusal.
     pub returned: usize,
-    /// The count of bytes written, as told: a reply's length or that of the
-    /// marks.
+    /// The count of bytes written, as reported: the length of a reply or of
+    /// the marks.
     pub written: usize,
     pub lent: Lent,
 }
@@ -97,7 +97,7 @@ pub fn hex(bytes: &[u8]) -> String {
     bytes.iter().map(|byte| format!("{byte:02x}")).collect()
 }
 
-/// Why a case was left.
+/// Why a case ended early.
 #[derive(Clone, Debug)]
 pub struct Difference {
     pub what: &'static str,
@@ -108,7 +108,7 @@ pub struct Difference {
 }
 
 impl Difference {
-    /// What it said went to standard error.
+    /// The panic's message went to standard error.
     pub fn panicked() -> Self {
         Difference {
             what: "a side panicked",

@@ -21,7 +21,7 @@ pub struct Plan {
     patterns: [Pattern; 2],
     /// Pollutants whose marks are aimed at.
     hunted: [bool; 2],
-    /// Whether standards may fall as they please.
+    /// Whether an amendment may set any standard.
     free: bool,
     /// Results to enter after an amendment made for them.
     pending: Option<[u32; 2]>,

@@ -37,7 +37,7 @@ impl Random {
         from[self.below(from.len())]
     }
 
-    /// A place in the list, in proportion to the weight that stands there.
+    /// An index of the list, drawn in proportion to the weight there.
     pub fn weighted(&mut self, weights: &[u32]) -> usize {
         let total: u32 = weights.iter().sum();
         let mut left = self.between(1, total);

@@ -1,4 +1,4 @@
-//! Readings that work out to a wished result.
+//! Readings that give a wanted result.
 
 use crate::model::work_result;
 use crate::random::Random;
@@ -6,7 +6,7 @@ use crate::random::Random;
 pub const MAX_READING: u32 = 20_000_000;
 pub const MAX_RESULT: u32 = 20_000;
 
-/// Readings that come to the wished result or near it: on both sides of their
+/// Readings that give the wanted result or one near it: on both sides of their
 /// mean, one of them some units off, and each some thousandths off.
 pub fn toward(random: &mut Random, wish: u32, kind: u32, factor: u32, count: usize) -> Vec<u32> {
     let mean = before_factor(wish, kind, factor);
@@ -25,7 +25,7 @@ pub fn toward(random: &mut Random, wish: u32, kind: u32, factor: u32, count: usi
     units.into_iter().map(reading).collect()
 }
 
-/// Readings that come to exactly the wished result, if some are found.
+/// Readings that give exactly the wanted result, if some are found.
 pub fn exact(
     random: &mut Random,
     wish: u32,
@@ -44,7 +44,8 @@ pub fn exact(
     Some(vec![mean; count]).filter(reaches)
 }
 
-/// The mean of readings, in result units, that a factor brings near the wish.
+/// The mean of readings, in result units, that a factor brings near the wanted
+/// result.
 fn before_factor(wish: u32, kind: u32, factor: u32) -> u32 {
     let mean = if kind == 0 {
         wish.saturating_sub((factor + 500) / 1_000)
@@ -54,7 +55,7 @@ fn before_factor(wish: u32, kind: u32, factor: u32) -> u32 {
     mean.min(MAX_RESULT)
 }
 
-/// Moved up or down by at most so much.
+/// Moved up or down by at most this much.
 fn shaken(random: &mut Random, value: u32, most: u32) -> u32 {
     (value + random.between(0, 2 * most)).saturating_sub(most)
 }

@@ -56,7 +56,7 @@ pub fn year(random: &mut Random) -> Year {
     year
 }
 
-/// Adds events until there are so many engines.
+/// Adds events until there are this many engines.
 fn grow(random: &mut Random, year: &mut Year, engines: usize) {
     let mut plan = match random.below(4) {
         0 => Plan::hunting(random, &year.setup),
@@ -69,7 +69,7 @@ fn grow(random: &mut Random, year: &mut Year, engines: usize) {
     }
 }
 
-/// Adds amendments until there are so many events.
+/// Adds amendments until there are this many events.
 fn pad(random: &mut Random, year: &mut Year, events: usize) {
     while year.events() < events && year.open() {
         let same = random.one_in(2);
@@ -103,7 +103,7 @@ fn fail(random: &mut Random, year: &mut Year) {
     }
 }
 
-/// Adds one event as it stands.
+/// Adds one event without checking it.
 pub fn enter(random: &mut Random, year: &mut Year, step: Move) {
     match step {
         Move::Engine(results) => {

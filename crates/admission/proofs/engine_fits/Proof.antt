@@ -1,4 +1,4 @@
--- `admissible::engine_fits` meets its contract.
+-- `engine_fits` meets its contract.
 use Rattle.conditions.proofs.Tests.{ltb-not-leb}
 use Rattle.progress.proofs.Carried.{count-le, counted}
 use borrow.Author.Needs.{needs}

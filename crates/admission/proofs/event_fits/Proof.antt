@@ -1,4 +1,4 @@
--- `admissible::event_fits` meets its contract.
+-- `event_fits` meets its contract.
 use borrow.Author.Needs.{needs}
 use Rattle.admission.proofs.event_fits.Statement.{statement}
 use Rattle.admission.proofs.event_fits.Tie as tie

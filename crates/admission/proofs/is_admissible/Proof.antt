@@ -1,4 +1,4 @@
--- `admissible::is_admissible` meets its contract.
+-- `is_admissible` meets its contract.
 use Rattle.year.specs.Admissible.{admissible}
 use Rattle.conditions.proofs.Tests.{ltb-not-leb}
 use borrow.Author.Needs.{needs}

@@ -1,4 +1,4 @@
--- `admissible::period_fits` meets its contract.
+-- `period_fits` meets its contract.
 use borrow.Author.Needs.{needs}
 use Rattle.admission.proofs.period_fits.Statement.{statement}
 use Rattle.admission.proofs.period_fits.Tie as tie

@@ -1,4 +1,4 @@
--- `admissible::results_in_range` meets its contract.
+-- `results_in_range` meets its contract.
 use borrow.Author.Needs.{needs}
 use Rattle.admission.proofs.results_in_range.Statement.{statement}
 use Rattle.admission.proofs.results_in_range.Tie as tie

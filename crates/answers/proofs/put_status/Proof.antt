@@ -68,7 +68,7 @@ module _ (c : tie.After-put-pollutant2) where
   other : length second ≡ 9
   other = ap length is-co ∙ length-nine (start .args .s .co)
 
-  -- which leaves the length as it was
+  -- which leaves the length unchanged
   long : length (putMid 11 9 (putMid 2 9 (start .args .numbers .now) first) second) ≡ length (start .args .numbers .now)
   long = both-long (start .args .numbers .now) first second (start .pre) nine other
 

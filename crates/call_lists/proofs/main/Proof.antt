@@ -1,4 +1,4 @@
--- `main` meets its contract. The invariant: the arrays keep their lengths, and no more is lent than there is.
+-- `main` meets its contract. The invariant: the arrays keep their lengths, and the part that is lent is at most as long as its array.
 use mathlib.Core.Path.{_≡_}
 use Prim.Native.Nat.{_-_, _≤_}
 use native.Mathlib.Omega.{arith}

@@ -21,7 +21,7 @@ enum-known-count c = search needs
 shared-slice-read-requested : tie.Need-shared-slice-read-requested
 shared-slice-read-requested c = search needs
 
--- so many values were read
+-- `count` values were read
 module _ (read : tie.After-count) where
   abbrev called : tie.After-read-numbers
   called = read .before .before .before

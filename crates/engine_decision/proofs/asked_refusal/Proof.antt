@@ -23,7 +23,7 @@ returns c =
     let t = c .before .before in
     rw (← t .is-tested .ensures, ← t .before .number-in-range .ensures, ← c .before .either .ensures, c .if1 .taken)
 
--- past the first test the number is new and in range
+-- once the first test is passed, the number is new and in range
 named : (c : tie.Else1) → (not (numberInRange (c .before .before .before .before .before .before .before .args .number)) || isTested (c .before .before .before .before .before .before .before .args .number) (tested (c .before .before .before .before .before .before .before .args .p .engines))) ≡ false
 named c =
     let t = c .before .before in

@@ -61,7 +61,7 @@ returns-2 c =
 cast-t12 : tie.Need-cast-t12
 cast-t12 c = omega (arith, counts (c .before .before .before .before .before) .2)
 
--- past the last refusals both results are in range
+-- once the last refusals are passed, both results are in range
 results : (c : tie.Else2)
     → let w = c .before in
     (w .before .before .result-of .result ≤ 20000) × (w .before .result-of2 .result ≤ 20000)

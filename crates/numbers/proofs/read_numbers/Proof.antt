@@ -1,4 +1,4 @@
--- `read_numbers` meets its contract. The invariant: the numbers before `at` are the first n of `values`. The measure is the rest of the line.
+-- `read_numbers` meets its contract. Loop invariant: the numbers before `at` are the first n of `values`. Decreasing measure: the rest of the line.
 use mathlib.Core.Path.{_≡_, refl, sym, ap, _∙_}
 use mathlib.Core.List.{List}
 use Prim.Native.Nat.{ℕ, _+_, _-_, _<_}
@@ -20,7 +20,7 @@ Inv-loop line values₀ at₀ n₀ values at n = (length values ≡ length value
 abbrev μ-loop : tie.MeasureT-loop
 μ-loop line values₀ at₀ n₀ values at n = length line - at
 
--- where a number was found there is room for it, and after it is stored the invariant holds again
+-- if a number was found there is room for it, and once it is stored the invariant holds again
 module _ (c : tie.After-known-told Inv-loop μ-loop) where
   abbrev l : tie.At-loop Inv-loop μ-loop
   l = c .before .before .before .before .before

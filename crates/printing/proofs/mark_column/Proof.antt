@@ -1,4 +1,4 @@
--- `mark_column` meets its contract. The invariant: the sums, C and the column are those past the engines before i. The measure is what is left.
+-- `mark_column` meets its contract. Loop invariant: the sums, C and the column are those after the engines before i. Decreasing measure: what is left.
 use mathlib.Core.Path.{_≡_}
 use mathlib.Core.Logic.{⊎-elim}
 use Prim.Native.Nat.{_+_, _-_, _≤_}
@@ -16,7 +16,7 @@ Inv-loop count resolution results standards column₀ sums₀ cumsum₀ i₀ col
 abbrev μ-loop : tie.MeasureT-loop
 μ-loop count resolution results standards column₀ sums₀ cumsum₀ i₀ column sums cumsum i = count - i
 
--- the ranges with the engine at i
+-- the engines up to and including the one at i are in range
 fits : (c : tie.In-loop Inv-loop μ-loop)
     → let a = c .before .before .before .args in ColumnsInRange (a .t1) (a .t2) (c .before .loop .i + 1) (a .resolution)
 fits c =

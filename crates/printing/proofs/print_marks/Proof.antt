@@ -1,4 +1,4 @@
--- `print_marks` meets its contract. The invariant: the marks of the engines before i stand in the buffer. The measure is what is left.
+-- `print_marks` meets its contract. Loop invariant: the marks of the engines before i are in the buffer. Decreasing measure: what is left.
 use mathlib.Core.Path.{_≡_, refl, _∙_}
 use Prim.Native.Nat.{_-_, _≤_}
 use native.Mathlib.Omega.{arith}
@@ -16,7 +16,7 @@ Inv-loop engines resolution out₀ hcnox co i₀ out i = (i ≤ engines .count) 
 abbrev μ-loop : tie.MeasureT-loop
 μ-loop engines resolution out₀ hcnox co i₀ out i = engines .count - i
 
--- the parameters where the first column is worked out and where the loop stands, and what is known there: how many engines there are, the buffer's length
+-- the parameters, as seen from the first column and from the loop; and in the loop, that there are at most 40 engines, and the buffer's length
 abbrev entered : tie.After-co-standards Inv-loop μ-loop → tie.Start Inv-loop μ-loop
 entered c = c .before .before .before .before .before
 

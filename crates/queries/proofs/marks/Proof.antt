@@ -1,4 +1,4 @@
--- `marks` meets its contract: `front_part`'s `hands`, with `write_front` for what does the work.
+-- `marks` meets its contract, by `hands` of `front_part`, with `write_front` as the function that does the work.
 use mathlib.Core.Path.{_≡_, ap}
 use lib.ListN.{length}
 use contract.Running.{givenOf, tables, tablesOf}

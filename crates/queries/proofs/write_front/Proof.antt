@@ -1,4 +1,4 @@
--- `write_front` meets its contract: it promises what `write_marks` promises. (The search would find this without the file; with it a fault is refused here first.)
+-- `write_front` meets its contract: it promises what `write_marks` does. (The search would find this without the file; with it, a fault is refused here first.)
 use borrow.Author.Needs.{needs}
 use Rattle.queries.proofs.write_front.Statement.{statement}
 use Rattle.queries.proofs.write_front.Tie as tie

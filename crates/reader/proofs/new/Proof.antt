@@ -1,5 +1,5 @@
--- `new` meets its contract: a walk of its MIR, by hand. A `Reader` is made of the slice and the number passed, in the result's local.
--- A `&[u8]` is Copy, so what it owns is had twice: once for line at exit, and once inside the result, beside the facts of at.
+-- `new` meets its contract: a walk through its MIR, by hand. A `Reader` is made from the slice and the number passed, in the result's local.
+-- A `&[u8]` is Copy, so what it owns is available twice: once for line at exit, and once inside the result, with the facts about at.
 use mathlib.Core.Path.{refl}
 use Prim.Native.Nat.{ℕ, _<_, _^_}
 use mathlib.Core.List.{List, [], _∷_}
@@ -82,7 +82,7 @@ module _ {M : Type 1} (𝓤 : URA M) (H : Heap 𝓤) (A : Atoms 𝓤) (W : Given
         (ends-at 𝓤 H A new.ended stayed clauses W (((κ, tt), (q, tt), tt, (s, (n, tt)), passed), tt) (T′.lowered made) made (tt, (tt, tt)) (tt, (tt, tt))) $
         says ! (refl, refl) $ frame ! $ fsplit ! $
         use1 W (‵ Own ⊛ ‵ Own) (shr-slice-copy 𝓤 H A W (named 0) κ u8 .twice s (v ∷ [])) $ split ! $ move ! (0 ∷ 2 ∷ []) $ fjoin ! $ frame ! $
-        -- [what line owns]: what the fields own together, of it and of at's facts, is what the struct owns
+        -- [what line owns]: this and the facts about at are what the fields own together, which is what the struct owns
         nothing ! $ owned ! usize (Is usize) (uint-makes 𝓤 H A W w64) n _ (refl, ok) $ fjoin ! $ move ! (1 ∷ 0 ∷ []) $ fjoin ! $
         by ! (own-shut 𝓤 H A W (T.the-type α) (T′.the-laws α) (s, (n, tt)))
 

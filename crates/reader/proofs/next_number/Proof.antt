@@ -1,6 +1,6 @@
--- `next_number` meets its contract: a walk of its MIR, by hand. The struct is taken apart, and `number_at` is called on the slice and the number. All that
--- the proof knows of `number_at` is that it meets its contract.
--- The struct is Copy: what it owns is had twice, one copy is kept whole for the exit, and of the other what line owns goes to the callee, beside the
+-- `next_number` meets its contract: a walk through its MIR, by hand. The struct is taken apart, and `number_at` is called on the slice and the number. All that
+-- the proof knows about `number_at` is that it meets its contract.
+-- The struct is Copy, so what it owns is available twice: one copy is kept whole for the exit; of the other, what line owns goes to the callee, with the
 -- lifetime's token, which comes back.
 use mathlib.Core.Path.{_≡_, refl, ap, _∙_}
 use Prim.Native.Nat.{_<_, _^_}
@@ -121,7 +121,7 @@ module _ {M : Type 1} (𝓤 : URA M) (H : Heap 𝓤) (A : Atoms 𝓤) (W : Given
     abbrev vd : Values (D .parts)
     vd = (d .line, (d .at, tt))
 
-    -- what the callee is passed, asks, and says. (It has no `&mut`, so what is said of last values is dropped.)
+    -- what the callee is passed, requires, and ensures. (It has no `&mut`, so the statement about last values is dropped.)
     abbrev passed : Vals step.signature (κ, tt)
     passed = (v ∷ [], (vint w64 (d .at) ∷ [], tt))
 
@@ -138,7 +138,7 @@ module _ {M : Type 1} (𝓤 : URA M) (H : Heap 𝓤) (A : Atoms 𝓤) (W : Given
     said : (r : Number) → ent 𝓤 (Ensured r) (fact 𝓤 (r ≡ found))
     said r = exE 𝓤 _ (λ ws. snd∗ 𝓤 (sem 𝓤 H A (lasts step.ended (κ, tt) (d .line, (d .at, tt)) ws)) (fact 𝓤 (r ≡ found)))
 
-    -- what the struct owns gives what the callee asks, and is kept
+    -- what the struct owns gives what the callee requires, and is kept as well
     apart : d .at < 2 ^ 64 → ent 𝓤 Entry (sep 𝓤 (NumberAt .pre to) (sem 𝓤 H A Own))
     apart fits =
         qed W (Token ∷ ‵ (owns (B (κ, tt) ∷ []) (d, tt) (mach ∷ [], tt)) ∷ []) ∵ move ! (1 ∷ []) $ fsplit ! $ move ! (1 ∷ []) $ drop ! $

@@ -1,7 +1,7 @@
--- `read_number` meets its contract: a walk of its MIR, by hand. A `Reader` that one call returns is held in a local and passed to the next. All that the
--- proof knows of `new` and of `next_number` is that each meets its contract.
--- The machine value that `new` returns is stored and passed on as it is. In a local of a body MIR erases the lifetime of the struct's type, so the value is
--- shown to have the type at `erased`: what the struct owns does not say the lifetime's name.
+-- `read_number` meets its contract: a walk through its MIR, by hand. A `Reader` that one call returns is held in a local and passed to the next. All that the
+-- proof knows about `new` and `next_number` is that each meets its contract.
+-- The machine value that `new` returns is stored and passed on unchanged. In a local of a body, MIR erases the lifetime of the struct's type, so the value is
+-- shown to have the type at `erased`: what the struct owns does not mention the lifetime's name.
 use mathlib.Core.Path.{_≡_, refl, ap, _∙_}
 use Prim.Native.Nat.{ℕ, _<_, _^_}
 use mathlib.Core.List.{List, [], _∷_}
@@ -119,7 +119,7 @@ module _ {M : Type 1} (𝓤 : URA M) (H : Heap 𝓤) (A : Atoms 𝓤) (W : Given
     abbrev OwnNumber : Number → Val → Item 𝓤
     OwnNumber t u = ‵ (S.the-row .own t (u ∷ []))
 
-    -- the call of `new`: what it is passed, what it asks, and what is known of its result
+    -- the call of `new`: what it is passed, what it requires, and what is known about its result
     abbrev to-new : New .Ghost
     to-new = (((κ, tt), (q, tt), tt, (s, (n, tt)), passed), tt)
 
@@ -162,7 +162,7 @@ module _ {M : Type 1} (𝓤 : URA M) (H : Heap 𝓤) (A : Atoms 𝓤) (W : Given
         (snd∗ 𝓤 (sem 𝓤 H A (lasts next.ended (κ, tt) (r, tt) ws)) (sep 𝓤 (fact 𝓤 (ReadOf r t)) (fact 𝓤 (TellsOf r t))))
         (fst∗ 𝓤 (fact 𝓤 (ReadOf r t)) (fact 𝓤 (TellsOf r t))))
 
-    -- the number that is read of a reader made of s and n
+    -- the number that a reader made from s and n reads
     both : (r : Reader) (t : Number) → MadeOf r → ReadOf r t → t ≡ found
     both r t e e′ = e′ ∙ ap (λ (x : RefT (List ℕ)). numberAt (now x) (r .at)) (e .0) ∙ ap (numberAt (now s)) (e .1)
 

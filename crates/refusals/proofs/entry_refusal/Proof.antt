@@ -22,7 +22,7 @@ returns-3 c =
     let s = e .before .before .before in
     rw (eq-eqb _ 544 (e .before .if1 .left), e .if2 .left, scanned-none (s .args .scanned) _ (s .pre) ∙ c .if3 .taken)
 
--- past the three tests a year is held
+-- once the three tests are passed, the journal holds a year
 held : (c : tie.Else3) → let s = c .before .before .before .before .before in noSetup (readJournal (s .args .journal .now)) ≡ false
 held c = let s = c .before .before .before .before .before in scanned-none (s .args .scanned) _ (s .pre) ∙ c .if3 .left
 

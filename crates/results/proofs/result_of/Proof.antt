@@ -12,7 +12,7 @@ use Rattle.results.proofs.Room.{nearest-le}
 use Rattle.results.proofs.result_of.Statement.{statement}
 use Rattle.results.proofs.result_of.Tie as tie
 
--- the three steps, each from what the one before it gave
+-- the three steps, each computed from the result of the one before
 steps : (f : Factor) (xs : List ℕ) (total mean r : ℕ) → total ≡ sum (map rounded xs) → mean ≡ nearestEven total (length xs) → r ≡ factored f mean
     → r ≡ resultOf f xs
 steps f xs total mean r et em er = rw (er, em, et, length-map xs rounded)

@@ -1,4 +1,4 @@
--- `rounded_sum` meets its contract. The invariant: what is added and what is left make the whole sum, and each turn adds less than 4,294,969.
+-- `rounded_sum` meets its contract. Loop invariant: what is added plus what is left is the whole sum, and each turn adds less than 4,294,969.
 use mathlib.Core.Path.{_≡_}
 use Prim.Native.Nat.{_+_, _*_, _-_, _≤_}
 use native.Mathlib.Omega.{arith}
@@ -31,7 +31,7 @@ cast-nearest-even c = omega (arith, c .shared-slice-known2 .given (c .before .be
 nearest-even-requires : tie.Need-nearest-even-requires Inv-loop μ-loop
 nearest-even-requires c κs = omega arith
 
--- what a turn adds, and that it is small: the reading is below 2 ^ 32
+-- upper bound on what a turn adds, since the reading is below 2 ^ 32
 turn : (c : tie.After-nearest-even Inv-loop μ-loop) → c .nearest-even .result ≤ 4294968
 turn c =
     let i = c .before .before .before .loop .i in

@@ -9,7 +9,7 @@ use Rattle.sample_size.proofs.numerator.Tie as tie
 t95-requires : tie.Need-t95-requires
 t95-requires c κs = search needs
 
--- the bounds of the three products, of the coefficient that was read
+-- upper bounds on the three products, with the coefficient that was read
 fits : (c : tie.After-t95) → (c .t95 .result * c .t95 .result ≤ 398161)
     × (c .t95 .result * c .t95 .result * c .before .args .variation ≤ 63705760000000000)
     × (c .t95 .result * c .t95 .result * c .before .args .variation * c .before .args .n ≤ 2548230400000000000)

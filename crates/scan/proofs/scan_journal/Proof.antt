@@ -1,4 +1,4 @@
--- `scan_journal` meets its contract: each test that fails refuses a part of an accepted journal, and where none does the events decide.
+-- `scan_journal` meets its contract: a test that fails shows a part that no accepted journal has; if none fails, the events decide.
 use mathlib.Core.Path.{sym, subst, _∙_}
 use native.Mathlib.Omega.{arith}
 use borrow.Author.Tests.{not-true}

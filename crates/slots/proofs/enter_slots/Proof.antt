@@ -1,5 +1,5 @@
--- `enter_slots` meets its contract. The invariant: the slots before j were entered, and the state with its engines stands for their events.
--- A need that arithmetic or the search settles is answered where it is handed over; the others stand first.
+-- `enter_slots` meets its contract. Loop invariant: the slots before j were entered, and the state with its engines represents their events.
+-- Needs that arithmetic or the search settles are proved inline, where they are passed to `tie.spec`; the others are proved before it.
 use mathlib.Core.Path.{_≡_, sym, subst, _∙_}
 use mathlib.Core.Bool.{true}
 use mathlib.Core.List.{List}
@@ -29,7 +29,7 @@ use Rattle.slots.proofs.Entering.{found, admitted, entry, stopped, fini
 use Rattle.slots.proofs.enter_slots.Statement.{statement}
 use Rattle.slots.proofs.enter_slots.Tie as tie
 
--- a state with other engines
+-- a state with its engines replaced
 abbrev with-engines : State → Engines → State
 with-engines p e =
     record {
@@ -50,7 +50,7 @@ Inv-loop journal count p₀ engines₀ j₀ p engines j = (j ≤ count) × (coun
 abbrev μ-loop : tie.MeasureT-loop
 μ-loop journal count p₀ engines₀ j₀ p engines j = count - j
 
--- the slot at j, what was found of it, and what is known before it
+-- the slot at j, what was found in it, and what is known before it
 module _ (b : tie.After-both Inv-loop μ-loop) where
   abbrev looped : tie.At-loop Inv-loop μ-loop
   looped = b .before .before .before .before .before .before .before
@@ -90,7 +90,7 @@ returns c =
     let none = sym (seen b .1) ∙ not-true _ (c .before .if1 .taken) in
     subst (ScannedAs (c .no-journal .result)) (sym (stopped (journal b) (count b) (j b) (more b) none)) (c .no-journal .ensures)
 
--- the slot enters, and this is its event: it is admissible, and by the law of its step the loop goes on
+-- the slot enters with event e: e is admissible, and by the law of its step the loop invariant holds again
 module _ (c : tie.Else1 Inv-loop μ-loop) {e : Event} (is : event (c .before) ≡ e) where
   abbrev b : tie.After-both Inv-loop μ-loop
   b = c .before
@@ -110,7 +110,7 @@ module _ (c : tie.Else1 Inv-loop μ-loop) {e : Event} (is : event (c .before) �
     whole,
   )
 
--- its event is an engine: there is room for it
+-- the event is an engine: there is room for it
 module _ (c : tie.After-known-told Inv-loop μ-loop) where
   abbrev slot : tie.Else1 Inv-loop μ-loop
   slot = c .before .before .before .before
@@ -156,10 +156,10 @@ enter-slots-spec =
     (λ c. omega arith) (λ c. omega arith)
     (λ c. omega arith) (λ c. omega arith) (λ c. omega arith) (λ c κs. simp (length-take, length-drop) (omega arith))
     (λ c. omega arith) (λ c. omega arith) (λ c. omega arith) (λ c κs. simp (length-take, length-drop) (omega arith))
-    -- what is asked of it, and the counts
+    -- the tests of the slot, and the counts
     (λ c κs. c .before .before .before .before .before .loop .inv .2 .consistent) (λ c κs. search needs) (λ c κs. search needs) returns
     (λ c. omega arith) (λ c. omega (arith, entered (c .before .before) .consistent .inRange .events))
-    -- an engine: its place; then for each array the cast, the offset of the place (bytes have none) and the index
+    -- an engine: its place; then for each array the cast, the place's offset (none for bytes) and the index
     (λ c. search needs) (λ c. omega (arith, narrow (fit c .engine)))
     (λ c. omega (arith, narrow (fit c .engine))) (λ c. omega (arith, narrow (fit c .engine))) (λ c. omega (arith, narrow (fit c .engine)))
     (λ c. omega (arith, narrow (fit (c .before) .engine))) (λ c. omega (arith, narrow (fit (c .before) .engine)))

@@ -1,4 +1,4 @@
--- `serve` starts where `answer_input` asks: from a zeroed journal, and with no byte of a line.
+-- `serve` meets the precondition of `answer_input`: it starts from a zeroed journal, with no byte of a line held.
 use mathlib.Core.Path.{refl}
 use Rattle.terminal.proofs.serve.Statement.{statement}
 use Rattle.terminal.proofs.serve.Tie as tie

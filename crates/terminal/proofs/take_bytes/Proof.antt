@@ -1,4 +1,4 @@
--- `take_bytes` meets its contract. The invariant: the bytes before the next one are taken. The measure is the number of bytes that are left.
+-- `take_bytes` meets its contract. Loop invariant: the bytes before the next one are taken. Decreasing measure: the number of bytes left.
 use mathlib.Core.Path.{refl}
 use Prim.Native.Nat.{_+_, _-_, _≤_}
 use native.Mathlib.Omega.{arith}

@@ -1,5 +1,5 @@
--- `take_pieces` meets its contract. The invariant: what the reads before this one brought is taken, and that is nothing where none may follow the first. The measure
--- is the number of reads that may follow.
+-- `take_pieces` meets its contract. Loop invariant: what the earlier reads brought is taken; it is nothing if no read may follow the first. Decreasing measure:
+-- the number of reads that may follow.
 use mathlib.Core.Path.{_≡_, refl}
 use mathlib.Core.Bool.{Bool, true}
 use mathlib.Core.Logic.{inl, inr}
@@ -14,7 +14,7 @@ use borrow.Author.Needs.{needs}
 use Rattle.terminal.proofs.take_pieces.Statement.{statement}
 use Rattle.terminal.proofs.take_pieces.Tie as tie
 
--- what the reads before a read brought
+-- what the earlier reads brought
 record Before (most more : ℕ) (line journal held left : List ℕ) : Type 0 where
   before : List ℕ
   first : most ≡ 0 → before ≡ []
@@ -23,11 +23,11 @@ record Before (most more : ℕ) (line journal held left : List ℕ) : Type 0 whe
 
 module _ {most more : ℕ} {line journal held left : List ℕ} (b : Before most more line journal held left) (all : Bool) (piece held2 left2 : List ℕ)
     (t : Taken all piece held left held2 left2) where
-  -- and it was the last one
+  -- this read is the last
   last-read : Fetched most all piece line journal held2 left2
   last-read = record { before = b .before; first = b .first; last = rw (← b .kept .holds, ← b .kept .leaves) t }
 
-  -- or another follows
+  -- or another read follows
   next-read : all ≡ true → (more ≡ 0 → ⊥) → Before most (more - 1) line journal held2 left2
   next-read e some =
       record {

@@ -1,4 +1,4 @@
--- `put_bytes` meets its contract. The invariant: the first i bytes stand in the output. The measure is what is left.
+-- `put_bytes` meets its contract. Loop invariant: the first i bytes are in the output. Decreasing measure: what is left.
 use mathlib.Core.Path.{_≡_, refl, _∙_}
 use Prim.Native.Nat.{_-_, _≤_}
 use native.Mathlib.Numerals.{add-one}

@@ -12,7 +12,7 @@ use Rattle.text.specs.Written.{Written}
 use Rattle.text.proofs.put_size.Statement.{statement}
 use Rattle.text.proofs.put_size.Tie as tie
 
--- no sample size is a space and '-'
+-- an absent sample size is written as a space and '-'
 absent : {before after : List ℕ} {place second end : ℕ} {size : SampleSize} → size ≡ Absent → Written before place (spaced (second ∷ [])) after end
     → second ≡ byte "-" → Written before place (spaced (sizeText size)) after end
 absent e w dash = rw (e, ← dash) w

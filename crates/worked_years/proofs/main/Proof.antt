@@ -1,4 +1,4 @@
--- `main` meets its contract. The invariant: the year is a consistent one.
+-- `main` meets its contract. The invariant: the year is consistent.
 use Prim.Native.Nat.{_-_}
 use native.Mathlib.Omega.{arith}
 use borrow.Author.Needs.{needs}

@@ -8,8 +8,8 @@ use cross::library::{self, FIGURES, REPLY};
 use cross::model;
 use cross::year::Year;
 
-/// Timed batches of each side in a row, and the nanoseconds that a batch of
-/// both should take.
+/// Timed batches of each side in a row of the table, and the nanoseconds that a
+/// batch of both sides should take.
 const BATCHES: usize = 500;
 const BATCH_NANOS: f64 = 2_500_000.0;
 
@@ -42,8 +42,8 @@ fn main() {
     print(&rows);
 }
 
-/// A year of so many engines in four periods, filled with amendments up to
-/// so many events.
+/// A year of this many engines in four periods, filled with amendments up to
+/// this many events.
 fn year(engines: u32, events: usize) -> Year {
     let mut year = Year::new(Setup {
         volume: 100_000,
@@ -69,7 +69,7 @@ fn year(engines: u32, events: usize) -> Year {
     year
 }
 
-/// A line; what it enters is taken back after each call.
+/// A line; what it enters is undone after each call.
 fn line_row(name: &'static str, journal: &[u8], line: &[u8]) -> Row {
     let (mut left, mut right) = (journal.to_vec(), journal.to_vec());
     let (mut left_reply, mut right_reply) = ([0; REPLY], [0; REPLY]);
@@ -91,8 +91,8 @@ fn line_row(name: &'static str, journal: &[u8], line: &[u8]) -> Row {
     row
 }
 
-/// Puts back the number of events and the slot after them: two small writes,
-/// next to nothing beside the call.
+/// Restores the number of events and the slot after them: two small writes,
+/// negligible beside the call.
 fn take_back(journal: &mut [u8], count: u8) {
     let at = journal::slot_at(count.into());
     journal[COUNT_AT] = count;
@@ -132,7 +132,7 @@ fn marks_row(name: &'static str, journal: &[u8]) -> Row {
     row
 }
 
-/// The median nanoseconds per call of each side, over batches by turns.
+/// The median nanoseconds per call of each side, over alternating batches.
 fn measure(name: &'static str, mut library: impl FnMut(), mut model: impl FnMut()) -> Row {
     let calls = 200;
     let both = batch(&mut library, calls) + batch(&mut model, calls);

@@ -12,7 +12,7 @@ use cross::options::{self, Options, USAGE};
 use cross::outcome::Difference;
 use cross::random::Random;
 
-/// So many cases are spread over the threads, and their counts then summed.
+/// How many cases are spread over the threads before their counts are summed.
 const ROUND: u64 = 4096;
 
 fn main() -> ExitCode {
@@ -34,8 +34,8 @@ fn run(options: &Options) -> ExitCode {
     let mut total = Counts::default();
     while total.calls < options.calls {
         let cases = next_cases(&mut random, options.calls - total.calls);
-        // in their order, up to the call that was asked for: what is counted
-        // and what is reported does not depend on the threads
+        // in order, up to the number of calls asked for, so that what is
+        // counted and reported does not depend on the threads
         for (case, result) in cases.iter().zip(results(&cases, options.names)) {
             match result {
                 Ok(counts) => total.add(&counts),
@@ -66,8 +66,8 @@ fn one_case(case: Case) -> ExitCode {
     }
 }
 
-/// The next cases of the run, where so many calls are left to make: a case
-/// makes one at least.
+/// The next cases of the run, with this many calls left to make: a case makes
+/// at least one.
 fn next_cases(random: &mut Random, calls: u64) -> Vec<Case> {
     let weights = KINDS.map(|kind| kind.weight);
     let draw = |_| Case {
@@ -77,9 +77,9 @@ fn next_cases(random: &mut Random, calls: u64) -> Vec<Case> {
     (0..calls.min(ROUND)).map(draw).collect()
 }
 
-/// Runs these cases, each thread every so many-th of them. Named before they
-/// run, they run one by one, so that the last one named is the one that ends
-/// the program.
+/// Runs these cases, dealt out to the threads by turns. If each is to be named
+/// before it runs, they run one by one, so that the last one named is the one
+/// that ends the program.
 fn results(cases: &[Case], names: bool) -> Vec<Result<Counts, Difference>> {
     if names {
         let named = cases.iter().inspect(|case| println!("{}", case.name()));
@@ -103,7 +103,7 @@ fn results(cases: &[Case], names: bool) -> Vec<Result<Counts, Difference>> {
     })
 }
 
-/// Prints a difference that was met after so many calls of earlier cases.
+/// Prints a difference that was found after this many calls of earlier cases.
 fn report(case: Case, difference: &Difference, earlier: u64) -> ExitCode {
     let agreed = earlier + difference.agreed;
     println!("{}, after {agreed} calls that agreed", difference.what);

@@ -1,4 +1,4 @@
-//! Lines of bytes: random ones, and lines in order with something changed.
+//! Lines of bytes: random ones, and well-formed lines with something changed.
 
 use super::damaged::damage;
 use crate::faults;
@@ -9,7 +9,7 @@ use crate::written;
 
 const ALPHABET: &[u8] = b"SEAPXLZ 0123456789";
 
-/// Bytes put into a line that is in order.
+/// Bytes put into a well-formed line.
 const STRANGE: &[u8] = b" \t\r\n\0+-.,/:;0129aelpsxEALPSXZ\x1f\x21\x2f\x3a\x80\xff";
 
 pub fn run(twin: &mut Twin, random: &mut Random) {
@@ -53,7 +53,7 @@ fn from_alphabet(random: &mut Random) -> Vec<u8> {
     (0..length).map(|_| random.pick(ALPHABET)).collect()
 }
 
-/// A line in order, mostly with arguments in range too.
+/// A well-formed line, mostly with arguments in range too.
 fn valid(journal: &[u8], random: &mut Random) -> Vec<u8> {
     match random.below(8) {
         0 | 1 => faults::setup(random, 30).line(),
@@ -105,8 +105,8 @@ fn lengthen_number(random: &mut Random, line: &mut Vec<u8>) {
     }
 }
 
-/// A line brought to about the longest length, or one whose length has the
-/// lowest bits of a shorter one.
+/// A line brought to about the greatest length, or one whose length has the
+/// same lowest bits as a shorter one.
 fn long(journal: &[u8], random: &mut Random) -> Vec<u8> {
     let mut line = valid(journal, random);
     let length = match random.below(200) {

@@ -46,7 +46,7 @@ pub const KINDS: [Kind; 5] = [
     },
 ];
 
-/// The place of the kind of this name.
+/// The index of the kind with this name.
 pub fn place_of(name: &str) -> Option<usize> {
     KINDS.iter().position(|kind| kind.name == name)
 }

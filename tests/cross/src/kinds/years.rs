@@ -40,8 +40,8 @@ fn plain(twin: &mut Twin, random: &mut Random) {
     end(&mut drive);
 }
 
-/// Some last calls: reading, sometimes the next period twice over, and
-/// sometimes a declaration and what it refuses.
+/// Some last calls: reading, sometimes the next period twice, and sometimes a
+/// declaration and calls that are refused after it.
 pub fn end(drive: &mut Drive) {
     drive.twin.command(b"L");
     drive.twin.status();

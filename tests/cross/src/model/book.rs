@@ -36,8 +36,8 @@ pub(super) enum Event {
 }
 
 impl Event {
-    /// The event of a slot, if the slot by itself is in order; the year then
-    /// says whether it could be entered where it stands.
+    /// The event of a slot, if the slot by itself is well formed; the year
+    /// then says whether it could be entered at that point.
     fn decode(slot: &[u8; SLOT_BYTES]) -> Option<Self> {
         match *slot {
             [ENGINE, readings @ 1..=3, a, b, c, d, e, f] => {
@@ -92,7 +92,7 @@ fn bytes(words: [u16; 2]) -> [u8; 4] {
 }
 
 /// The setup in the first 32 bytes and the number of events, if those bytes
-/// are in order. The number of events is not yet held to its range.
+/// are well formed. The range of the number of events is not yet checked.
 fn decode_head(head: &[u8; HEAD_BYTES]) -> Option<(Setup, u8)> {
     let (&name, rest) = head.split_first_chunk::<8>()?;
     let (&[p0, p1, p2, p3, d0, d1], rest) = rest.split_first_chunk::<6>()?;

@@ -21,7 +21,7 @@ const STRIP_HEAD: &[u8; 3] = b"OK ";
 
 /// One key line (without its newline) on the book. The reply (no newline) goes
 /// to the front of `reply` and its length is returned; the bytes of `reply`
-/// beyond it stay as they were.
+/// beyond it are unchanged.
 pub fn key_line(book: &mut [u8], line: &[u8], reply: &mut [u8; REPLY_BYTES]) -> usize {
     let mut list = [0; MAX_NUMBERS];
     let answer = match read_line(line, &mut list) {
@@ -37,8 +37,8 @@ pub fn key_line(book: &mut [u8], line: &[u8], reply: &mut [u8; REPLY_BYTES]) -> 
     writer.len
 }
 
-/// The letter and the numbers of a line. Refusal 1, and of refusal 2 what does
-/// not depend on the letter.
+/// The letter and the numbers of a line. Refusal 1, and the part of refusal 2
+/// that does not depend on the letter.
 fn read_line<'n>(line: &[u8], list: &'n mut [u32; MAX_NUMBERS]) -> Result<(u8, &'n [u32]), u8> {
     if line.len() > MAX_LINE {
         return Err(refusal::LINE_LENGTH);

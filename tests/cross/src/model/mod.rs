@@ -1,7 +1,7 @@
 //! Document 01: the production-line test book under 40 CFR 1054.
 //!
-//! Every call takes the book as lent bytes, works the whole of it afresh and
-//! keeps nothing between calls. A refused call changes no lent byte.
+//! Every call takes the book as lent bytes, recomputes all of it and keeps
+//! nothing between calls. A refused call changes no lent byte.
 
 #![forbid(unsafe_code)]
 

@@ -119,7 +119,7 @@ impl Pollutant {
         self.h_high = 20 * (self.s + self.e);
     }
 
-    /// The newest mark, and what it makes with the one before it.
+    /// The newest mark, and the patterns that it makes with the one before it.
     fn take_mark(&mut self) {
         let before = self.mark;
         self.mark = if self.c_low > self.h_high {
@@ -136,7 +136,7 @@ impl Pollutant {
         }
     }
 
-    /// n × T, which G is reckoned from: G = S − n × T.
+    /// n × T, from which G is computed: G = S − n × T.
     fn allowed(&self) -> u64 {
         self.n * self.standard
     }
@@ -155,7 +155,7 @@ impl Pollutant {
         Some((t95 * t95 * self.v * self.n, (self.n - 1) * g * g))
     }
 
-    /// N in tenths, rounded up: 10 × N is 10 and top / (1,000 × bottom), of
+    /// N in tenths, rounded up: 10 × N is 10 plus top / (1,000 × bottom), of
     /// which only the fraction needs rounding. 1,000 × 2.5e13 fits.
     pub fn n_tenths(&self) -> Option<u64> {
         let (top, bottom) = self.excess()?;

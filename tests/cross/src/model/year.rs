@@ -100,7 +100,7 @@ impl Year {
         }
     }
 
-    /// Refusals 8 and 9, which every event meets.
+    /// Refusals 8 and 9, which are checked for every event.
     pub(super) fn check_open(&self) -> Result<(), u8> {
         if self.declared || self.failed() {
             return Err(refusal::CLOSED);

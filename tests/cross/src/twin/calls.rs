@@ -9,7 +9,7 @@ use crate::model::{self, Status};
 use crate::outcome::{Call, Outcome};
 
 impl Twin {
-    /// One key line; 0 or the refusal.
+    /// Carries out one key line; returns 0 or the refusal.
     pub fn command(&mut self, line: &[u8]) -> u8 {
         let call = Call::Line(line);
         self.before(call);
@@ -39,7 +39,7 @@ impl Twin {
         refusal
     }
 
-    /// Enters an engine; 0 or the refusal.
+    /// Enters an engine; returns 0 or the refusal.
     pub fn engine(&mut self, number: u32, hcnox: &[u32], co: &[u32]) -> u8 {
         let call = Call::Engine(number, hcnox, co);
         self.before(call);
@@ -61,7 +61,7 @@ impl Twin {
         refusal
     }
 
-    /// Reads the status; 0 or the refusal.
+    /// Reads the status; returns 0 or the refusal.
     pub fn status(&mut self) -> u8 {
         self.before(Call::Status);
         let mut lent = self.figures_noise();
@@ -74,7 +74,7 @@ impl Twin {
         self.count(Column::Status, &answer)
     }
 
-    /// Writes the marks into a buffer of this length; 0 or the refusal.
+    /// Writes the marks into a buffer of this length; returns 0 or the refusal.
     pub fn marks(&mut self, length: usize) -> u8 {
         self.before(Call::Marks);
         let mut lent = self.byte_noise(length);
@@ -94,7 +94,7 @@ impl Twin {
         refusal
     }
 
-    /// Often reads back what an entry left.
+    /// Reads back, often but not always, what an entry left.
     fn look(&mut self) {
         if self.noise.one_in(3) {
             self.status();

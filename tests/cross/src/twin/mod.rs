@@ -1,4 +1,4 @@
-//! The two sides: equal buffers lent to both, and both compared whole.
+//! The two sides: both are lent equal buffers, which are then compared whole.
 
 mod calls;
 mod short;
@@ -15,7 +15,7 @@ use crate::random::Random;
 pub struct Twin {
     pub counts: Counts,
     trace: bool,
-    /// What the lent buffers hold before a call.
+    /// Fills the lent buffers before a call.
     noise: Random,
     /// The journal before the call, and on each side.
     kept: Vec<u8>,
@@ -53,7 +53,7 @@ impl Twin {
         self.model.part()
     }
 
-    /// Keeps the journal as it is before a call.
+    /// Keeps a copy of the journal before a call.
     fn before(&mut self, call: Call) {
         if self.trace {
             println!("{call}");
@@ -62,13 +62,13 @@ impl Twin {
         self.kept.extend_from_slice(self.model.part());
     }
 
-    /// A buffer of so many random bytes, at any address.
+    /// A buffer of this many random bytes, at any address.
     fn byte_noise(&mut self, length: usize) -> Buffer<u8> {
         let start = self.noise.below(BEFORE + 1);
         Buffer::new(self.noise.bytes(start + length + AFTER), start)
     }
 
-    /// A buffer of so many random words.
+    /// A buffer of this many random words.
     fn word_noise(&mut self, length: usize) -> Buffer<u64> {
         let start = self.noise.below(3);
         let words = (0..start + length + AFTER).map(|_| self.noise.word());
@@ -101,7 +101,7 @@ impl Twin {
         }
     }
 
-    /// Both sides tell the same and leave the same journal.
+    /// Checks that both sides answer the same and leave the same journal.
     fn compare(&self, call: Call, library: &Outcome, model: &Outcome) {
         if self.trace {
             println!("  {model}");
@@ -111,21 +111,22 @@ impl Twin {
         }
     }
 
-    /// A refused call and one that only reads leave the journal as it was.
+    /// Checks that a refused call, or one that only reads, left the journal
+    /// unchanged.
     fn expect_kept(&self, call: Call, outcome: &Outcome) {
         if self.model.part() != self.kept {
             self.differ("the journal was changed", call, outcome, outcome);
         }
     }
 
-    /// What the library was lent only to read is as it was.
+    /// Checks that what the library was lent only to read is unchanged.
     fn expect_read<T: PartialEq>(&self, call: Call, outcome: &Outcome, copy: &T, given: &T) {
         if copy != given {
             self.differ("an argument was changed", call, outcome, outcome);
         }
     }
 
-    /// Leaves the case.
+    /// Leaves the case, reporting the difference.
     fn differ(&self, what: &'static str, call: Call, library: &Outcome, model: &Outcome) -> ! {
         let mut lines = vec![
             format!("call: {call}"),

@@ -19,7 +19,7 @@ impl Twin {
         self.counts.short();
     }
 
-    /// An engine, with at most so many figures.
+    /// An engine, with room for at most this many figures.
     pub fn engine_short(&mut self, number: u32, hcnox: &[u32], co: &[u32], length: usize) {
         let call = Call::EngineShort(number, hcnox, co);
         self.before(call);
@@ -32,7 +32,7 @@ impl Twin {
         self.counts.short();
     }
 
-    /// A status, with at most so many figures.
+    /// A status, with room for at most this many figures.
     pub fn status_short(&mut self, length: usize) {
         self.before(Call::StatusShort);
         let mut lent = self.few_figures(length);

@@ -1,4 +1,4 @@
--- `hold` meets its contract.
+-- `holding::hold` meets its contract.
 use mathlib.Core.Path.{_≡_, sym, ap, _∙_}
 use mathlib.Core.List.{[], _∷_, _++_}
 use native.Mathlib.Numerals.{add-one}
@@ -12,7 +12,7 @@ use Rattle.buffers.proofs.Lists.{put-one}
 use Rattle.console.proofs.holding.hold.Statement.{statement}
 use Rattle.console.proofs.holding.hold.Tie as tie
 
--- all 65 bytes are held
+-- 65 bytes are held already
 returns : tie.Need-returns
 returns c =
     let a = c .before .args in
@@ -31,7 +31,7 @@ add-result c = search needs
 same-length : tie.Need-same-length
 same-length c = rw length-set
 
--- one byte more
+-- one more byte is held
 returns-2 : tie.Need-returns-2
 returns-2 c =
     let a = c .before .args in

@@ -1,4 +1,4 @@
--- `damage::lengths_from` meets its contract. The invariant repeats what is required.
+-- `damage::lengths_from` meets its contract. The invariant repeats the precondition.
 use mathlib.Core.Path.{_≡_}
 use Prim.Native.Nat.{_-_, _≤_}
 use native.Mathlib.Omega.{arith}

@@ -1,4 +1,4 @@
--- `damage::values` meets its contract. The invariant: the journal keeps its length, and what the byte was is below 256.
+-- `damage::values` meets its contract. The invariant: the journal keeps its length, and the byte's old value is below 256.
 use mathlib.Core.Path.{_≡_}
 use Prim.Native.Nat.{_+_, _-_, _≤_, _<_}
 use native.Mathlib.Nat.{mod-lt}

@@ -1,4 +1,4 @@
--- `readings::all_in_range` meets its contract. The invariant: what is left to look at tells the whole. The measure is what is left.
+-- `readings::all_in_range` meets its contract. Loop invariant: all readings are in range exactly if those from i on are. Decreasing measure: what is left.
 use mathlib.Core.Path.{_≡_, refl, sym, _∙_}
 use Prim.Native.Nat.{_-_, _≤_}
 use native.Mathlib.Omega.{arith}

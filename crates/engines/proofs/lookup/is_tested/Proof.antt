@@ -1,4 +1,4 @@
--- `lookup::is_tested` meets its contract. The invariant: what was found is what the engines before i tell. The measure is what is left.
+-- `lookup::is_tested` meets its contract. Loop invariant: `found` says whether an engine before i has the number. Decreasing measure: what is left.
 use mathlib.Core.Path.{_≡_, refl, sym, ap, _∙_}
 use Prim.Native.Nat.{_-_, _≤_}
 use native.Mathlib.Numerals.{add-one}

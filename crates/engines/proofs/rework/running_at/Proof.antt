@@ -1,4 +1,4 @@
--- `rework::running_at` meets its contract. The invariant: the figures are those of the engines before i. The measure is what is left.
+-- `rework::running_at` meets its contract. Loop invariant: the figures are those of the engines before i. Decreasing measure: what is left.
 use mathlib.Core.Path.{_≡_}
 use Prim.Native.Nat.{_+_, _-_, _≤_}
 use native.Mathlib.Omega.{arith}

@@ -1,4 +1,4 @@
--- `store::with_engine` meets its contract: the place, then for each array the cast, the offset of the place (bytes have none) and the index.
+-- `store::with_engine` meets its contract. The needs, in order: the place; then for each array the cast, the place's offset (none for bytes) and the index.
 use native.Mathlib.Omega.{arith}
 use Rattle.engines.proofs.Sized.{sized}
 use Rattle.engines.proofs.Arrays.{narrow, tested-next}

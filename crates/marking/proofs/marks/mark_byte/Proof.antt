@@ -1,4 +1,4 @@
--- `mark_byte` meets its contract: one line for each mark.
+-- `marks::mark_byte` meets its contract: one line for each mark.
 use borrow.Author.Needs.{needs}
 use Rattle.marking.proofs.marks.mark_byte.Statement.{statement}
 use Rattle.marking.proofs.marks.mark_byte.Tie as tie

@@ -1,4 +1,4 @@
--- `is_digit` meets its contract.
+-- `digits::is_digit` meets its contract.
 use borrow.Author.Tests.{le-leb, lt-leb}
 use Rattle.reader.proofs.digits.is_digit.Statement.{statement}
 use Rattle.reader.proofs.digits.is_digit.Tie as tie

@@ -1,4 +1,4 @@
--- `is_number` meets its contract.
+-- `digits::is_number` meets its contract.
 use mathlib.Core.Path.{_≡_}
 use Prim.Native.Nat.{_-_}
 use native.Mathlib.Omega.{arith}

@@ -1,4 +1,4 @@
--- `number_at` meets its contract.
+-- `digits::number_at` meets its contract.
 use mathlib.Core.Path.{_≡_, sym, _∙_}
 use mathlib.Core.Logic.{⊎-elim}
 use mathlib.Core.Bool.{false}
@@ -15,9 +15,9 @@ use Rattle.reader.proofs.Spelling.{number-size, too-many}
 use Rattle.reader.proofs.digits.number_at.Statement.{statement}
 use Rattle.reader.proofs.digits.number_at.Tie as tie
 
--- of what was read
+-- facts about the digits that were read
 module _ (line : List ℕ) (at end value : ℕ) (r : DigitsRead line at end value) where
-  -- where it is no number, the digits are none
+  -- if they are not a number, neither are all the digits at this position
   no-number : isNumber line at (end - at) ≡ false → isNumber line at (digits (drop at line)) ≡ false
   no-number f =
       ⊎-elim
@@ -25,7 +25,7 @@ module _ (line : List ℕ) (at end value : ℕ) (r : DigitsRead line at end valu
       (λ e. too-many line at (digits (drop at line)) (omega (arith, r .among)))
       (r .whole)
 
-  -- where it has up to eight digits, it has all
+  -- if at most eight were read, they are all the digits at this position
   all-digits : end - at ≤ 8 → end - at ≡ digits (drop at line)
   all-digits few = ⊎-elim (λ e. omega (arith, r .after)) (λ e. absurd (omega arith)) (r .whole)
 

@@ -1,5 +1,5 @@
--- `read_digits` meets its contract. The invariant: up to nine digits stand before i, v is what they spell, and those from i on are the others. The measure is the
--- rest of the line.
+-- `digits::read_digits` meets its contract. Loop invariant: at most nine digits were read before i, v is what they spell, and the other digits are those from i
+-- on. Decreasing measure: the rest of the line.
 use mathlib.Core.Path.{_≡_, refl, sym, _∙_}
 use mathlib.Core.Logic.{_⊎_, inl, inr}
 use mathlib.Core.Bool.{true}
@@ -35,7 +35,7 @@ shared-slice-read-b c = omega arith
 is-digit-requires : tie.Need-is-digit-requires Inv-loop μ-loop
 is-digit-requires c κs = tt
 
--- what is read so far, where it is all of the digits or nine
+-- what is read so far, if it is all of the digits or nine of them
 module _ (l : tie.At-loop Inv-loop μ-loop) where
   abbrev line : List ℕ
   line = l .before .before .args .line .now

@@ -1,4 +1,4 @@
--- `coefficient::t95` meets its contract: the constant is the definition's list, compared whole.
+-- `coefficient::t95` meets its contract: the constant table equals the definition's list, compared as a whole.
 use borrow.Author.Needs.{needs}
 use borrow.Author.Tests.{le-leb, lt-leb}
 use Rattle.statistics.specs.SampleSize.{t95}

@@ -1,4 +1,4 @@
--- `squareroot::root_from` meets its contract. The invariant: the guess r is at least the root, and q is x / r. The measure is r.
+-- `squareroot::root_from` meets its contract. Loop invariant: the guess r is at least the root, and q is x / r. Decreasing measure: r.
 use mathlib.Core.Path.{_≡_, refl, sym}
 use Prim.Native.Nat.{_+_, _*_, _/_, _^_, _<_}
 use native.Mathlib.Nat.{div-le-self}

@@ -11,7 +11,7 @@ use borrow.Author.Needs.{needs}
 use Rattle.verdicts.proofs.verdict.closed.Statement.{statement}
 use Rattle.verdicts.proofs.verdict.closed.Tie as tie
 
--- a year is closed by its declaration or by a failure that the figures carry
+-- a year is closed exactly if it was declared or one of the carried figures says failed
 by-flags : (p : Progress) → Consistent p → (p .declared || (p .hcnox .failed || p .co .failed)) ≡ closed (progressOf p)
 by-flags p c = rw (failed-is p c 1024 Hcnox (p .hcnox) (c .figures .hcnox), failed-is p c 1024 Co (p .co) (c .figures .co)) (sym (closed-is (progressOf p)))
 
