@@ -120,8 +120,8 @@ def long_line(program, size):
 
 
 def no_input(program):
-    """Standard input that is closed, or cannot be read, ends like one that is empty."""
-    for stdin in ('<&-', '</'):
+    """Standard input that is empty, closed or cannot be read: no reply, and it ends quietly."""
+    for stdin in ('</dev/null', '<&-', '</'):
         child = start('/bin/sh', '-c', 'exec "$0" ' + stdin, program, stdout=subprocess.PIPE)
         assert child.communicate(timeout=SECONDS) == (b'', b'') and child.returncode == 0
 

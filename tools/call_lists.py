@@ -1055,7 +1055,7 @@ def sibling(rng, readings, kind, factor, x):
 
 
 def about(kind, factor, x):
-    """A reading whose result is x or not far below it, where no reading yields x."""
+    """A reading whose result is x or not far below it."""
     return 1000 * (max(0, x - factor // 1000 - 1) if kind == 0 else x * 1000 // factor)
 
 

@@ -21,7 +21,7 @@ pub fn size_of(f: Running) -> SampleSize
     sample_size_of(s.n, s.total, f.standard, s.variation)
 }
 
-// The figures with an N; before engine 2 they are 0.
+// The figures of a status, with this N. Before engine 2 they are 0, except S.
 pub fn with_size(f: Running, size: SampleSize) -> Figures
     ensures { λ r. ⌜ ((k : ℕ) (h : List Test) → f ≡ running k h → r ≡ figures k size h) ⌝ }
 {

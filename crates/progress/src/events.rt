@@ -56,8 +56,8 @@ fn engine(p: Progress, number: u32, readings: u32, results: Pair) -> Progress
     }
 }
 
-// The state with one more event, which must be admissible. `enter_slots` of the crate scan takes the same step in place, its arms in the same order: a change
-// to one must be made to both.
+// The state with one more event, which must be admissible. `slots::enter_slots` takes the same step in place, its arms in the same order: a change to one must
+// be made to both.
 pub fn after(p: Progress, e: Event) -> Progress
     requires { ⌜ Consistent p × (admissible (progressOf p) e ≡ true) ⌝ }
     ensures { λ r. ⌜ progressOf r ≡ after e (progressOf p) ⌝ }

@@ -66,7 +66,7 @@ pub record Cases : Type 0 where
   pub spacedRead : spacedOutcome (text "A 800 6100") 1 ≡ record { refusal = 0; value = 800; next = 5 }
   pub spaceMissing : spacedOutcome (text "A800 6100") 1 ≡ record { refusal = 2; value = 0; next = 0 }
   pub spacedRefused : spacedOutcome (text "A 0800 6100") 1 ≡ record { refusal = 2; value = 0; next = 0 }
-  -- exactly one space, and nothing else
+  -- not of the form: spaces, other bytes, the count of numbers, the letter, an empty line
   pub twoSpaces : commandOf (text "A 800  6100") ≡ Refuse 2
   pub numberMissing : commandOf (text "A 800 ") ≡ Refuse 2
   pub spaceAtEnd : commandOf (text "A 800 6100 ") ≡ Refuse 2

@@ -109,7 +109,7 @@ pub record Cases : Type 0 where
   -- 16
   pub marksSize : refusal 544 (marksInto 1) (yearOf (engine 1 998 ∷ [])) ≡ 16
   pub marksFit : refusal 544 (marksInto 2) (yearOf (engine 1 998 ∷ [])) ≡ 0
-  -- on bytes: a refused call leaves them unchanged, and gives zeros; a setup writes all of them, an entry adds its event
+  -- on bytes: a refused call leaves them unchanged; a setup writes all of them, an entry adds its event
   pub refusedLeaves : journalAfter engineOne (zeros 544) ≡ zeros 544
   pub declaredLeaves : journalAfter engineOne (encode (setupOf 5000 800) (Declaration ∷ [])) ≡ encode (setupOf 5000 800) (Declaration ∷ [])
   pub refusedAnswer : answer engineOne (zeros 544) ≡ Refused 7

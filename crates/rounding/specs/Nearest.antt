@@ -1,4 +1,4 @@
--- What `nearestEven` must satisfy (ASTM E29): "to the nearest, halves to the even neighbour"; and that no other number satisfies it.
+-- What `nearestEven` must satisfy (ASTM E29): "to the nearest, halves to the even neighbour". No other number satisfies it, by a law in proofs/.
 use mathlib.Core.Path.{_≡_}
 use mathlib.Core.Logic.{_≢_}
 use Prim.Native.Nat.{ℕ, _*_, _%_, _≤_}

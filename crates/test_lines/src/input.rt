@@ -16,7 +16,7 @@ fn next_byte() -> u8 {
     one[0]
 }
 
-// The next line, without its newline, and its length: 0 at the end of the input.
+// The next line, without its newline, and its length: 0 for an empty line and at the end of the input. A line has at most 256 bytes.
 pub fn read_line(line: &mut [u8]) -> usize
     requires { ⌜ length (now line) ≡ 256 ⌝ }
     ensures { λ r. ⌜ r ≤ 256 ⌝ }

@@ -45,7 +45,7 @@ pub record CasesOfRanges : Type 0 where
   pub periodsByDays : map (periods 1600) (1 ∷ 120 ∷ 121 ∷ 210 ∷ 211 ∷ 300 ∷ 301 ∷ 366 ∷ []) ≡ 1 ∷ 1 ∷ 2 ∷ 2 ∷ 3 ∷ 3 ∷ 4 ∷ 4 ∷ []
   -- "The first period needs two engines, a later one needs one."
   pub neededEngines : map needs (1 ∷ 2 ∷ 3 ∷ 4 ∷ []) ≡ 2 ∷ 1 ∷ 1 ∷ 1 ∷ []
-  -- "the engine number, 1 to 65,535"; "each result from 0 to 20,000 being allowed", for each pollutant; 1 to 3 readings; multiples of ten for an amendment too
+  -- "the engine number, 1 to 65,535"; "each result from 0 to 20,000 being allowed", for each pollutant; 1 to 3 readings
   pub numbers : map numberInRange (0 ∷ 1 ∷ 65535 ∷ 65536 ∷ []) ≡ false ∷ true ∷ true ∷ false ∷ []
   pub hcnoxResults : map (λ (x : ℕ). resultsInRange (pair x 0)) (0 ∷ 20000 ∷ 20001 ∷ []) ≡ true ∷ true ∷ false ∷ []
   pub coResults : map (λ (x : ℕ). resultsInRange (pair 0 x)) (0 ∷ 20000 ∷ 20001 ∷ []) ≡ true ∷ true ∷ false ∷ []
@@ -54,6 +54,7 @@ pub record CasesOfRanges : Type 0 where
   pub resultFits : map (λ (x : ℕ). fits (replay (setupOf 5000 800) []) (engine 1 x)) (20000 ∷ 20001 ∷ []) ≡ true ∷ false ∷ []
   -- "whether or not some reading yields it": no reading under a factor of 60 yields 1
   pub resultOfNoReading : fits (replay (factoring (multiplied 60000) noFactor) []) (engine 1 1) ≡ true
+  -- "Standards are whole result units, multiples of ten, 10 to 20,000", for an amendment too
   pub amendmentFits : map (λ (t : ℕ). fits (replay (setupOf 5000 800) []) (Amendment (pair 800 t))) (0 ∷ 10 ∷ 15 ∷ 20000 ∷ 20010 ∷ []) ≡ false ∷ true ∷ false ∷ true ∷ false ∷ []
   -- "At most 40 engines." "number of events, 0 to 64"
   pub engines : map (λ (n : ℕ). enginesFull (replay (setupOf 5000 800) (enginesTo n))) (39 ∷ 40 ∷ []) ≡ false ∷ true ∷ []
