@@ -6,7 +6,7 @@ Run from the repository's root, after target/bin/calculator and target/figures a
   console            $ and a command, and what it prints
   slip NAME YEAR     lines of examples/YEAR.txt with their replies, and what a calculator that makes the slip NAME (tools/slips.py) replies: all lines but L where
                      the two differ
-Key lines and replies within the text have to occur in a block or in a worked year.
+Key lines and replies within the text have to occur in a block or in a worked year, and the table of t95 has to be the model's.
 """
 import glob
 import re
@@ -15,14 +15,15 @@ import sys
 
 sys.path.insert(0, 'tools')
 import slips
+from model import t95
 
 MANUAL = 'docs/MANUAL.md'
 CALCULATOR = 'target/bin/calculator'
 ARROW, CROSS = '→', '✗'
 
 
-def run(words, given=b'', **more):
-    done = subprocess.run(words, input=given, stdout=subprocess.PIPE, timeout=60, **more)
+def run(words, given=b''):
+    done = subprocess.run(words, input=given, stdout=subprocess.PIPE)
     assert done.returncode == 0, '%s: exit status %d' % (words, done.returncode)
     return done.stdout
 
@@ -66,6 +67,14 @@ def slip(body, name, year):
     return [text for row in shown for text in row]
 
 
+def coefficients(text):
+    """The table of t95: rows of n, each with a row of coefficients below it."""
+    found = {}
+    for above, below in re.findall(r'^\| n \| (.*) \|\n(?:\|[-|]*\|\n)?\| \*\*t95\*\* \| (.*) \|$', text, re.M):
+        found.update(zip(above.split(' | '), below.split(' | ')))
+    assert found == {'31+' if n == 31 else str(n): '%.2f' % (t95(n) / 100) for n in range(2, 32)}, found
+
+
 def read(path):
     with open(path, encoding='utf-8') as f:
         return f.read()
@@ -78,6 +87,7 @@ def main():
         seen.update({'keys': keys, 'console': console, 'slip': slip}[kind](body, *more))
         count[kind] = count.get(kind, 0) + 1
     assert set(re.findall(r'^```slip (\w+)', text, re.M)) == set(slips.SLIPS), 'a slip is missing'
+    coefficients(text)
     for path in glob.glob('examples/*.txt'):
         seen.update(read(path).splitlines())
     prose = re.sub(r'^```.*\n((?:(?!```).*\n)*)```$', '', text, flags=re.M)
