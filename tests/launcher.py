@@ -84,7 +84,7 @@ def main():
         os.remove(home + '/fail')
         # Through two symbolic links, from another folder: 3 crates, and nothing of the build on standard output.
         status, out, err = run(link, rt=rt, cwd=folder)
-        assert (status, out) == (0, 'L\n') and '3 crates' in err and 'proved' not in err and len(err.splitlines()) == 2, (status, out, err)
+        assert (status, out) == (0, 'L\n') and re.search('crate [0-3] of 3, 0 s\n', err) and 'proved' not in err and len(err.splitlines()) == 2, (status, out, err)
         with open(log) as f:
             assert f.read().count('rt: ') == 3 and builds(home) == 2
         # Built: neither rt nor a word on standard error. Then a source changes.
