@@ -43,9 +43,9 @@ static void print_pollutant(const char *name, const uint64_t *f, uint64_t tested
         printf(" %11llu", (unsigned long long)f[i]);
     }
     if (size == 0) {
-        printf("         -");
+        printf("             -");
     } else {
-        printf(" %7llu.%llu", (unsigned long long)(size / 10), (unsigned long long)(size % 10));
+        printf(" %11llu.%llu", (unsigned long long)(size / 10), (unsigned long long)(size % 10));
     }
     printf("    %c\n", (int)f[PLT_OFFSET_MARK]);
     if (tested >= 2) {
@@ -61,9 +61,9 @@ static void print_figures(const uint64_t *figures) {
     uint64_t tested = figures[PLT_FIGURE_TESTED], verdict = figures[PLT_FIGURE_VERDICT];
     printf("n %llu  verdict %llu (%s)\n", (unsigned long long)tested, (unsigned long long)verdict, verdicts[verdict]);
     if (tested > 0) {
-        printf("              S         s e       C low      C high       H low      H high         N mark\n");
-        print_pollutant("HC+NOx", figures + PLT_FIGURE_HCNOX, tested);
-        print_pollutant("CO", figures + PLT_FIGURE_CO, tested);
+        printf("              S         s e       C low      C high       H low      H high             N mark\n");
+        print_pollutant("HC+NOx", figures + PLT_BASE_HCNOX, tested);
+        print_pollutant("CO", figures + PLT_BASE_CO, tested);
     }
     printf("\n");
 }
@@ -77,7 +77,7 @@ static void key_lines(uint8_t *journal) {
     while ((length = read_line(line)) >= 0) {
         size_t count = plt_command(journal, PLT_JOURNAL_SIZE, line, (size_t)length, out, sizeof out);
         fwrite(line, 1, (size_t)length, stdout);
-        printf("\n%.*s\n", (int)count, (const char *)out);
+        printf("%s\n%.*s\n", length == LINE_SIZE ? ".." : "", (int)count, (const char *)out);
         if (out[0] == 'O' && line[0] != 'L' && plt_status(journal, PLT_JOURNAL_SIZE, figures, PLT_FIGURE_COUNT) == PLT_ACCEPTED) {
             print_figures(figures);
         }
@@ -96,13 +96,20 @@ static long read_file(const char *name, uint8_t *bytes, size_t size) {
     return failed ? -1 : (long)length;
 }
 
-static int write_file(const char *name, const uint8_t *bytes, size_t size) {
-    FILE *file = fopen(name, "wb");
-    if (file == NULL) {
-        return 0;
+/* Writes a journal's file, if the journal is an accepted one. */
+static int save_file(const char *name, const uint8_t *journal) {
+    uint64_t figures[PLT_FIGURE_COUNT];
+    if (plt_status(journal, PLT_JOURNAL_SIZE, figures, PLT_FIGURE_COUNT) != PLT_ACCEPTED) {
+        fprintf(stderr, "figures: no setup was accepted, and %s is not written\n", name);
+        return 1;
     }
-    size_t written = fwrite(bytes, 1, size, file);
-    return fclose(file) == 0 && written == size;
+    FILE *file = fopen(name, "wb");
+    size_t written = file == NULL ? 0 : fwrite(journal, 1, PLT_JOURNAL_SIZE, file);
+    if (file == NULL || fclose(file) != 0 || written != PLT_JOURNAL_SIZE) {
+        fprintf(stderr, "figures: %s cannot be written\n", name);
+        return 1;
+    }
+    return 0;
 }
 
 /* The figures of the newest engine, and the marks of all. */
@@ -127,20 +134,25 @@ static int show_file(const char *name) {
     return 0;
 }
 
+/* Standard output is checked once, at the end. */
+static int finish(int status) {
+    if (fflush(stdout) != 0 || ferror(stdout)) {
+        fprintf(stderr, "figures: the output cannot be written\n");
+        return 1;
+    }
+    return status;
+}
+
 int main(int argc, char **argv) {
     static uint8_t journal[PLT_JOURNAL_SIZE];
     int save = argc == 3 && strcmp(argv[1], "--save") == 0;
     if (argc == 2 && argv[1][0] != '-') {
-        return show_file(argv[1]);
+        return finish(show_file(argv[1]));
     }
     if (argc != 1 && !save) {
         fprintf(stderr, "usage: figures [FILE | --save FILE]\n");
         return 2;
     }
     key_lines(journal);
-    if (save && !write_file(argv[2], journal, sizeof journal)) {
-        fprintf(stderr, "figures: %s cannot be written\n", argv[2]);
-        return 1;
-    }
-    return 0;
+    return finish(save ? save_file(argv[2], journal) : 0);
 }

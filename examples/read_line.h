@@ -1,4 +1,7 @@
 /* Key lines from standard input, for the examples in C. */
+#ifndef READ_LINE_H
+#define READ_LINE_H
+
 #include <stddef.h>
 #include <stdint.h>
 #include <stdio.h>
@@ -21,3 +24,5 @@ static long read_line(uint8_t line[LINE_SIZE]) {
     }
     return (long)length;
 }
+
+#endif

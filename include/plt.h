@@ -2,7 +2,7 @@
 
    A journal is a buffer of PLT_JOURNAL_SIZE bytes that the caller owns and lends to each call. It holds the test year of one engine family: a setup, then engines,
    amendments, periods and a declaration. Start from a buffer of zeros and key a setup ("S ..") with plt_command. docs/MANUAL.md explains the year, the key lines,
-   units, verdicts and refusals, and the layout of the journal. The archive that `rt staticlib plt` builds is for x86-64.
+   units, verdicts and refusals, and the layout of the journal. The archive that `rt staticlib plt` builds is for x86-64 (ELF, System V calling convention).
 
    Units. A result unit is one tenth of the last decimal of the standard: 0.01 g/kWh under a standard of 8.0 g/kWh, 0.1 g/kWh under one of 610. Standards, results
    and their sum S are in result units, readings in thousandths of a result unit, s in 1/1,024, and C and H in 1/4,096 result unit; N is in tenths.
@@ -26,7 +26,7 @@ extern "C" {
 #endif
 
 #define PLT_JOURNAL_SIZE 544 /* bytes of a journal */
-#define PLT_REPLY_SIZE 96    /* smallest output that holds any reply */
+#define PLT_REPLY_SIZE 96    /* smallest output that plt_command takes; it holds any reply */
 #define PLT_MARKS_SIZE 80    /* smallest output that holds the marks of any journal: forty engines */
 #define PLT_FIGURE_COUNT 20  /* figures of a status */
 
@@ -64,12 +64,12 @@ enum plt_verdict {
     PLT_VERDICT_DECLARED = 7             /* declared by the manufacturer */
 };
 
-/* Places among the figures of a status. Each pollutant has nine figures: figures[PLT_FIGURE_CO + PLT_OFFSET_MARK] is the CO mark. Before engine 2 a pollutant's
+/* Places among the figures of a status. Each pollutant has nine figures: figures[PLT_BASE_CO + PLT_OFFSET_MARK] is the CO mark. Before engine 2 a pollutant's
    figures are 0, except S; its mark is '-'. */
 #define PLT_FIGURE_TESTED 0  /* n, the number of engines tested */
 #define PLT_FIGURE_VERDICT 1 /* enum plt_verdict */
-#define PLT_FIGURE_HCNOX 2   /* the first of the nine of HC+NOx */
-#define PLT_FIGURE_CO 11     /* the first of the nine of CO */
+#define PLT_BASE_HCNOX 2     /* the first of the nine of HC+NOx */
+#define PLT_BASE_CO 11       /* the first of the nine of CO */
 #define PLT_OFFSET_SUM 0             /* S, the sum of the results, in result units */
 #define PLT_OFFSET_DEVIATION 1       /* s, the sample standard deviation in 1/1,024 result unit, rounded down */
 #define PLT_OFFSET_INEXACT 2         /* e: 0 if s is exact, else 1 */

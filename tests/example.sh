@@ -27,6 +27,19 @@ head -c 544 /dev/zero >target/zeros
 for file in examples/year.txt target/zeros target/nowhere; do
     status=0
     target/figures "$file" 2>target/message || status=$?
-    [ "$status" -eq 1 ] && grep -q "^figures: $file " target/message
+    [ "$status" -eq 1 ]
+    grep -q "^figures: $file " target/message
 done
+# Nothing to save; no room for the output; wrong arguments.
+status=0
+target/figures --save target/nothing </dev/null 2>target/message || status=$?
+[ "$status" -eq 1 ]
+grep -q '^figures: no setup' target/message
+[ ! -e target/nothing ]
+status=0
+target/figures <crates/calculator/stdin >/dev/full 2>target/message || status=$?
+[ "$status" -eq 1 ]
+status=0
+target/figures --all 2>target/message || status=$?
+[ "$status" -eq 2 ]
 echo "the examples in C print what is stored: the tested runs, and the figures of the worked years"

@@ -92,14 +92,14 @@ static void pollutant(const uint64_t *f, uint64_t sum, uint64_t deviation, uint6
 static void status(const uint64_t *figures) {
     same("n", figures[PLT_FIGURE_TESTED], 2);
     same("verdict", figures[PLT_FIGURE_VERDICT], PLT_VERDICT_CONTINUE);
-    pollutant(figures + PLT_FIGURE_HCNOX, 2069, 52857, 1, 1057158, 1057140, 30, '?');
-    pollutant(figures + PLT_FIGURE_CO, 10000, 0, 0, 0, 0, 10, 'U');
+    pollutant(figures + PLT_BASE_HCNOX, 2069, 52857, 1, 1057158, 1057140, 30, '?');
+    pollutant(figures + PLT_BASE_CO, 10000, 0, 0, 0, 0, 10, 'U');
 }
 
 static void refused(const char *what, uint8_t found, uint8_t expected, const uint64_t *figures) {
     same(what, found, expected);
     for (int i = 0; i < PLT_FIGURE_COUNT; i++) {
-        same(what, figures[i], i == PLT_FIGURE_HCNOX + PLT_OFFSET_MARK || i == PLT_FIGURE_CO + PLT_OFFSET_MARK ? '-' : 0);
+        same(what, figures[i], i == PLT_BASE_HCNOX + PLT_OFFSET_MARK || i == PLT_BASE_CO + PLT_OFFSET_MARK ? '-' : 0);
     }
 }
 

@@ -20,6 +20,7 @@ from model import t95
 MANUAL = 'docs/MANUAL.md'
 CALCULATOR = 'target/bin/calculator'
 ARROW, CROSS = '→', '✗'
+BLOCK = r'^```(.*)\n((?:(?!```).*\n)*)```$'
 
 
 def run(words, given=b''):
@@ -48,7 +49,9 @@ def keys(body):
 
 
 def console(body):
-    for command, wanted in re.findall(r'^\$ (.*)\n((?:(?!\$ ).*\n)*)', body, re.M):
+    found = re.findall(r'^\$ (.*)\n((?:(?!\$ ).*\n)*)', body, re.M)
+    assert ''.join('$ %s\n%s' % pair for pair in found) == body, 'a block that does not begin with a command:\n' + body
+    for command, wanted in found:
         got = run(['bash', '-euo', 'pipefail', '-c', command]).decode()
         assert got == wanted, '%s\ngot:\n%s' % (command, got)
     return body.splitlines()
@@ -64,7 +67,7 @@ def slip(body, name, year):
     assert shown == differing, 'the slip %s differs at %s' % (name, differing)
     stored = list(zip(read('examples/%s.txt' % year).splitlines(), read('examples/%s.replies.txt' % year).splitlines()))
     assert all((line, reply) in stored for line, reply, _ in shown)
-    return [text for row in shown for text in row]
+    return [text for row in shown for text in row[:2]]
 
 
 def coefficients(text):
@@ -82,7 +85,9 @@ def read(path):
 
 def main():
     text, seen, count = read(MANUAL), set(), {}
-    for words, body in re.findall(r'^```(.*)\n((?:(?!```).*\n)*)```$', text, re.M):
+    blocks = re.findall(BLOCK, text, re.M)
+    assert len(re.findall(r'^\s*(?:```|~~~)', text, re.M)) == 2 * len(blocks), 'a fence that opens or closes no block'
+    for words, body in blocks:
         kind, *more = words.split()
         seen.update({'keys': keys, 'console': console, 'slip': slip}[kind](body, *more))
         count[kind] = count.get(kind, 0) + 1
@@ -90,10 +95,10 @@ def main():
     coefficients(text)
     for path in glob.glob('examples/*.txt'):
         seen.update(read(path).splitlines())
-    prose = re.sub(r'^```.*\n((?:(?!```).*\n)*)```$', '', text, flags=re.M)
+    prose = re.sub(BLOCK, '', text, flags=re.M)
     for quoted in re.findall(r'`([^`]+)`', prose):
         if re.fullmatch(r'(OK|NO) .*|[A-Z]( \d+)+', ' '.join(quoted.split())):
-            assert ' '.join(quoted.split()) in seen or quoted in ('NO 9', 'NO 14'), 'no example has `%s`' % quoted
+            assert ' '.join(quoted.split()) in seen, 'no example has `%s`' % quoted
     print('the manual: %s' % ', '.join('%d blocks of %s' % (n, kind) for kind, n in sorted(count.items())))
 
 

@@ -6,7 +6,7 @@ Run from the repository's root, it writes tests/figures.txt: all worked years on
 from runs import YEARS, Calculator
 
 VERDICTS = ['short', 'continue', 'sample size reached', 'thirty tested', 'one percent tested', 'undecided', 'failed', 'declared']
-HEAD = '              S         s e       C low      C high       H low      H high         N mark'
+HEAD = '              S         s e       C low      C high       H low      H high             N mark'
 
 
 def decimals(tenthousandths):
@@ -21,7 +21,7 @@ def interval(name, low, high, scale):
 def pollutant(name, p, n):
     size = p.N_tenths()
     shown = '-' if size is None else '%d.%d' % divmod(size, 10)
-    yield '%-6s %8d %9d %d %11d %11d %11d %11d %9s    %s' % (name, p.S, p.s, p.e, p.c_low, p.c_high, p.h_low, p.h_high, shown, p.marks[-1])
+    yield '%-6s %8d %9d %d %11d %11d %11d %11d %13s    %s' % (name, p.S, p.s, p.e, p.c_low, p.c_high, p.h_low, p.h_high, shown, p.marks[-1])
     if n >= 2:
         yield '      ' + interval('sigma', p.s, p.s + p.e, 1024) + interval('C', p.c_low, p.c_high, 4096) + interval('H', p.h_low, p.h_high, 4096)
 

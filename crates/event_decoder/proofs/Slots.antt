@@ -26,7 +26,7 @@ module _ (part : List ℕ) (bytes : Bytes part) (long : 8 ≤ length part) where
       rw (part-elements part 0 8 long, part-elements part 1 1 (omega arith), part-elements part 6 2 (omega arith), e)
       (simp (low part bytes, high part bytes, eqb-refl, and-true))
 
-  -- a kind other than 3 is read as kind 4
+  -- after kinds 1 and 2: kind 3 is a next period, and any other kind is read as a declaration
   last-two : (t : Bool) → eqb (getD part 0 0) 3 ≡ t
       → ((t || eqb (getD part 0 0) 4) && isZero (take 7 (drop 1 part))) ≡ same (slotOf (cond t NextPeriod Declaration)) (take 8 part)
   last-two true h = rw (part-elements part 0 8 long, part-elements part 1 7 (omega arith), eqb-true (getD part 0 0) 3 h)
