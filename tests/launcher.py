@@ -98,7 +98,7 @@ def prepare(folder):
         os.makedirs(os.path.dirname(home + '/' + file), exist_ok=True)
         shutil.copy(file, home + '/' + file)
     os.mkdir(folder + '/commands')
-    for command in COMMANDS:
+    for command in filter(shutil.which, COMMANDS):
         os.symlink(shutil.which(command), folder + '/commands/' + command)
     write(folder + '/rt/rt', STAND_IN, 0o755)
     os.symlink('a home/calculator', folder + '/first')
