@@ -1,6 +1,6 @@
 #!/usr/bin/env bash
-# The library from C: every name of its header, in C and in C++; and the examples. The calculator in C prints the stored outputs of the tested runs, and nothing for
-# empty input; the figures of the worked years are the stored ones, also from a journal's file.
+# The library from other languages: every name of its header, in C and in C++; and the examples. The calculators in C and Rust print the stored outputs of the tested
+# runs, and nothing for empty input; the figures of the worked years are the stored ones, also from a journal's file.
 set -euo pipefail
 cd "$(dirname "$0")/.."
 library=target/staticlib/libplt.a
@@ -14,10 +14,13 @@ c++ -std=c++11 $strict -x c++ tests/header.c -x none "$library" -o target/header
 target/header
 
 cc -std=c11 $strict examples/calculator.c "$library" -o target/calculator_c
-for run in calculator run_years run_lines; do
-    target/calculator_c <"crates/$run/stdin" | cmp - "crates/$run/stdout"
+rustc --edition 2024 -D warnings -O examples/calculator.rs -L target/staticlib -l static=plt -o target/calculator_rust
+for program in target/calculator_c target/calculator_rust; do
+    for run in calculator run_years run_lines; do
+        "$program" <"crates/$run/stdin" | cmp - "crates/$run/stdout"
+    done
+    "$program" </dev/null | cmp - /dev/null
 done
-target/calculator_c </dev/null | cmp - /dev/null
 
 cc -std=c11 $strict examples/figures.c "$library" -o target/figures
 cat crates/calculator/stdin crates/run_years/stdin | target/figures --save target/figures.journal | cmp - tests/figures.txt
@@ -42,4 +45,4 @@ target/figures <crates/calculator/stdin >/dev/full 2>target/message || status=$?
 status=0
 target/figures --all 2>target/message || status=$?
 [ "$status" -eq 2 ]
-echo "the examples in C print what is stored: the tested runs, and the figures of the worked years"
+echo "the examples print what is stored: in C and Rust the tested runs, in C the figures of the worked years"

@@ -18,5 +18,6 @@ pub mod readings;
 pub mod results;
 pub mod setups;
 pub mod twin;
+pub mod words;
 pub mod written;
 pub mod year;

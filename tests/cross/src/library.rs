@@ -1,6 +1,6 @@
 //! The library's four calls: the C declarations and safe wrappers of them.
-
-use crate::model::Status;
+//! include/plt.h says what each does. The file needs nothing else of this
+//! project.
 
 unsafe extern "C" {
     fn plt_command(
@@ -40,8 +40,14 @@ unsafe extern "C" {
     ) -> u8;
 }
 
+/// Bytes of a journal.
+pub const JOURNAL: usize = 544;
+
 /// Bytes that a reply buffer needs.
 pub const REPLY: usize = 96;
+
+/// Bytes that hold the marks of any journal.
+pub const MARKS: usize = 80;
 
 /// Words that the figures need: n, verdict, nine for each pollutant.
 pub const FIGURES: usize = 20;
@@ -115,30 +121,4 @@ pub fn marks(journal: &[u8], out: &mut [u8], written: &mut usize) -> u8 {
             written,
         )
     }
-}
-
-/// The twenty words that report a status or a refusal.
-pub fn words_of(answer: &Result<Status, u8>) -> [u64; FIGURES] {
-    let mut words = [0; FIGURES];
-    let Ok(status) = answer else {
-        words[10] = u64::from(b'-');
-        words[19] = u64::from(b'-');
-        return words;
-    };
-    words[0] = status.n;
-    words[1] = u64::from(status.verdict);
-    for (part, figures) in words[2..].chunks_mut(9).zip(&status.pollutants) {
-        part.copy_from_slice(&[
-            figures.sum,
-            figures.s,
-            figures.e,
-            figures.c_low,
-            figures.c_high,
-            figures.h_low,
-            figures.h_high,
-            figures.n_tenths.unwrap_or(0),
-            u64::from(figures.mark),
-        ]);
-    }
-    words
 }

@@ -6,6 +6,7 @@ use std::time::Instant;
 use cross::journal::{self, COUNT_AT, Setup};
 use cross::library::{self, FIGURES, REPLY};
 use cross::model;
+use cross::words::words_of;
 use cross::year::Year;
 
 /// Timed batches of each side in a row of the table, and the nanoseconds that a
@@ -110,7 +111,7 @@ fn status_row(name: &'static str, journal: &[u8]) -> Row {
             let _ = black_box(model::status(black_box(journal)));
         },
     );
-    assert_eq!(figures, library::words_of(&model::status(journal)));
+    assert_eq!(figures, words_of(&model::status(journal)));
     row
 }
 

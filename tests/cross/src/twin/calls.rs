@@ -7,6 +7,7 @@ use crate::journal;
 use crate::library::{self, FIGURES};
 use crate::model::{self, Status};
 use crate::outcome::{Call, Outcome};
+use crate::words::words_of;
 
 impl Twin {
     /// Carries out one key line; returns 0 or the refusal.
@@ -118,7 +119,7 @@ impl Twin {
 
 /// What an answer in figures should leave in a buffer of words.
 fn figures(answer: &Result<Status, u8>, mut lent: Buffer<u64>) -> Outcome {
-    lent.part_mut()[..FIGURES].copy_from_slice(&library::words_of(answer));
+    lent.part_mut()[..FIGURES].copy_from_slice(&words_of(answer));
     Outcome::words(answer.err().unwrap_or(0), lent)
 }
 
