@@ -1,15 +1,17 @@
 /* Production-line emission testing under 40 CFR 1054: the functions of libplt.a, for C and C++.
 
    A journal is a buffer of PLT_JOURNAL_SIZE bytes that the caller owns and lends to each call. It holds the test year of one engine family: a setup, then engines,
-   amendments, periods and a declaration. Start from a buffer of zeros and key a setup ("S ..") with plt_command. docs/MANUAL.md explains the year, the key lines,
-   units, verdicts and refusals, and the layout of the journal. The archive that `rt staticlib plt` builds is for x86-64 (ELF, System V calling convention).
+   amendments, periods and a declaration. Start from a buffer of zeros and key a setup ("S ..") with plt_command, which is
+   also the way to amend, to begin a period and to declare. docs/MANUAL.md explains the year, the key lines,
+   units, verdicts and refusals, and the layout of the journal. The archive that `rt staticlib plt` builds is for x86-64: ELF, System V calling
+   convention with its red zone and a stack aligned to 16 bytes, SSE2.
 
    Units. A result unit is one tenth of the last decimal of the standard: 0.01 g/kWh under a standard of 8.0 g/kWh, 0.1 g/kWh under one of 610. Standards, results
    and their sum S are in result units, readings in thousandths of a result unit, s in 1/1,024, and C and H in 1/4,096 result unit; N is in tenths.
 
    Every function is proved to meet its contract in crates/plt/src/lib.rt, for all arguments that keep three rules:
    - a pointer is valid for as many elements as the length after it says (`written`, which has no length, for one), and aligned for its type;
-   - a length of 0 still needs a valid pointer, not NULL (it is not read);
+   - with a length of 0 the pointer still has to be aligned and not NULL, but is not followed;
    - the buffers lent to one call do not overlap, and nothing else reads or writes them until it returns.
 
    Nothing else is required: bad input gets the number of its refusal, and where several refusals apply, the first in the order of enum plt_refusal. A refused call
@@ -39,7 +41,7 @@ enum plt_refusal {
     PLT_REFUSED_PRODUCTION = 4,      /* projected volume or production days out of range */
     PLT_REFUSED_STANDARD = 5,        /* a standard out of range, or not a multiple of ten */
     PLT_REFUSED_FACTOR = 6,          /* a deterioration factor or its kind out of range */
-    PLT_REFUSED_JOURNAL = 7,         /* the buffer does not hold an accepted journal; a setup does not ask for one */
+    PLT_REFUSED_JOURNAL = 7,         /* the buffer does not hold an accepted journal; a setup needs none */
     PLT_REFUSED_YEAR_CLOSED = 8,     /* the family has failed or was declared */
     PLT_REFUSED_EVENTS_FULL = 9,     /* 64 events are stored */
     PLT_REFUSED_ENGINE_NUMBER = 10,  /* out of range, or in the journal already */
@@ -49,7 +51,7 @@ enum plt_refusal {
     PLT_REFUSED_ENGINES_FULL = 14,   /* forty engines are stored */
     PLT_REFUSED_PERIOD = 15,         /* this is the last period, or it lacks engines */
     PLT_REFUSED_MARKS_SIZE = 16,     /* the output for marks has fewer than two bytes for each engine */
-    PLT_TOO_FEW_FIGURES = 255        /* no refusal: the slice lent for the figures has fewer than PLT_FIGURE_COUNT numbers, and nothing was done */
+    PLT_TOO_FEW_FIGURES = 255        /* no refusal: the array lent for the figures has fewer than PLT_FIGURE_COUNT numbers, and nothing was done */
 };
 
 /* The verdict on the year, figures[PLT_FIGURE_VERDICT]. */
@@ -84,7 +86,7 @@ enum plt_verdict {
 
    line     any bytes; more than 64 are refused by 1.
    out      at least PLT_REPLY_SIZE bytes. The reply ("OK ..", "NO ..", without a newline or a terminating 0) is written at its front; later bytes are unchanged.
-   returns  the length of the reply, 2 to 95 bytes, refused ("NO 1" to "NO 15") or not. If out is shorter than PLT_REPLY_SIZE: 0, and nothing is done.
+   returns  the length of the reply, at least 2 and less than PLT_REPLY_SIZE, refused ("NO 1" to "NO 15") or not. If out is shorter than PLT_REPLY_SIZE: 0, and nothing is done.
 
    Only an accepted setup (all 544 bytes) or entry (one slot and byte 24) writes the journal. */
 size_t plt_command(uint8_t *journal, size_t journal_length, const uint8_t *line, size_t line_length, uint8_t *out, size_t out_length);
@@ -93,8 +95,8 @@ size_t plt_command(uint8_t *journal, size_t journal_length, const uint8_t *line,
 
    number     1 to 65,535 and not yet in the journal, else it is refused by 10.
    hcnox, co  1 to 3 readings each, as many of one as of the other, else it is refused by 11. A reading above 20,000,000 is refused by 12.
-   figures    at least PLT_FIGURE_COUNT numbers: the status of the journal that the call leaves. After a refusal they are all 0, with marks '-'. Later numbers
-              are unchanged.
+   figures    at least PLT_FIGURE_COUNT numbers: if the engine was entered, the new status; after a refusal all 0, with marks '-', so look at what is returned
+              first (plt_status still gives the status of the unchanged journal). Later numbers are unchanged.
    returns    0 if the engine was entered, else the refusal: 3, 7 to 14. PLT_TOO_FEW_FIGURES if figures is too short, and nothing is done. */
 uint8_t plt_engine(uint8_t *journal, size_t journal_length, uint32_t number, const uint32_t *hcnox, size_t hcnox_length, const uint32_t *co, size_t co_length,
     uint64_t *figures, size_t figures_length);
