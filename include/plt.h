@@ -86,7 +86,8 @@ enum plt_verdict {
 
    line     any bytes; more than 64 are refused by 1.
    out      at least PLT_REPLY_SIZE bytes. The reply ("OK ..", "NO ..", without a newline or a terminating 0) is written at its front; later bytes are unchanged.
-   returns  the length of the reply, at least 2 and less than PLT_REPLY_SIZE, refused ("NO 1" to "NO 15") or not. If out is shorter than PLT_REPLY_SIZE: 0, and nothing is done.
+   returns  the length of the reply, at least 2 and less than PLT_REPLY_SIZE, refused ("NO 1" to "NO 15") or not. If out is shorter than PLT_REPLY_SIZE: 0, and
+            nothing is done.
 
    Only an accepted setup (all 544 bytes) or entry (one slot and byte 24) writes the journal. */
 size_t plt_command(uint8_t *journal, size_t journal_length, const uint8_t *line, size_t line_length, uint8_t *out, size_t out_length);

@@ -136,7 +136,8 @@ def main():
         failures(with_rt, program, home, log)
         # Through two symbolic links, from another folder: 3 crates, and nothing of the build on standard output.
         status, out, err = run(with_rt, link, cwd=folder)
-        assert (status, out) == (0, 'L\n') and len(err.splitlines()) == 2 and 'proved' not in err and re.search('crate [0-3] of 3, [0-9]+ s\n', err), (status, out, err)
+        assert (status, out) == (0, 'L\n'), (status, out, err)
+        assert len(err.splitlines()) == 2 and 'proved' not in err and re.search('crate [0-3] of 3, [0-9]+ s\n', err), err
         with open(log) as f:
             assert f.read().count('rt: ') == 3 and builds(home) == 3
         # Built: neither rt nor a word on standard error. Then a source changes.

@@ -37,6 +37,8 @@ def parts(line, marks):
 
 
 def to_bytes(keyed):
+    """The line's bytes. No key line has a backslash of its own, so each has to begin an escape."""
+    assert '\\' not in re.sub(r'\\(r|t|x[0-9a-f]{2})', '', keyed), 'an unknown escape: ' + keyed
     return re.sub(rb'\\x([0-9a-f]{2})', lambda m: bytes([int(m.group(1), 16)]), keyed.encode().replace(b'\\r', b'\r').replace(b'\\t', b'\t'))
 
 

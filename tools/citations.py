@@ -24,7 +24,7 @@ ALLOWED = {'&&', '||', '-', '&mut', '&mut u8', 'let', 'let .. else', 'requires',
            'L', 'OK', 'NO', 'N passed, 0 failed', 'memcpy', 'memset', 'libplt.a', 'target/figures', '../../target/staticlib', 'PLT_LIB', 'NAME.replies.txt', '--write', '--save FILE',
            'must-fail/LABEL.edit', 'target/must-fail/NAME/LABEL/.log', 'crates/*/specs/'}
 COMMANDS = ('rt ', './calculator ')
-# Key lines and replies, which tests/manual.py looks for.
+# Key lines and replies. In the manual, tests/manual.py looks for them in its examples.
 KEYED = re.compile(r'(OK|NO) .*|[A-Z]( \d+)+')
 # Words of the language and of its library within a longer text.
 WORDS = {'let', 'mut', 'else', 'getD'}
