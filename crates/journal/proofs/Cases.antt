@@ -9,11 +9,12 @@ use Rattle.buffers.specs.Bytes.{put}
 use Rattle.year.specs.Periods.{periods, needs}
 use Rattle.year.specs.Verdict.{verdict}
 use Rattle.year.specs.Admissible.{closed, admissible}
+use Rattle.journal.specs.Encode.{canHold, append}
 use Rattle.journal.specs.Read.{readAs}
 use Rattle.journal.specs.Cases.{Cases}
 
 pub cases : Cases
-unfolding nearestEven variation t95 sizeReached compared failed undecided put periods needs verdict closed admissible readAs
+unfolding nearestEven variation t95 sizeReached compared failed undecided put periods needs verdict closed admissible canHold append readAs
 cases =
     record {
       size = refl;
@@ -25,15 +26,26 @@ cases =
       amendmentSlot = refl;
       periodSlot = refl;
       declarationSlot = refl;
+      deletionSlot = refl;
       appended = refl;
       appendedNext = refl;
+      appendedStrike = refl;
+      appendedAfter = refl;
+      appendedSecond = refl;
       readNone = refl;
       readOne = refl;
       readTwo = refl;
+      readStruck = refl;
       readZeros = refl;
-      otherVersion = refl;
+      versionTwo = refl;
+      versionTwoOfOne = refl;
+      versionOne = refl;
+      versionThree = refl;
+      versionZero = refl;
+      versionHigh = refl;
       dirtyHeader = refl;
       dirtySlot = refl;
+      dirtyStrike = refl;
       dirtyUnused = refl;
       otherKind = refl;
       tooLong = refl;
@@ -41,5 +53,7 @@ cases =
       resultAtMost = refl;
       resultAbove = refl;
       afterDeclaration = refl;
+      strikeOfNone = refl;
+      strikeEarlier = simp deviation-none;
       readEachKind = simp deviation-none;
     }

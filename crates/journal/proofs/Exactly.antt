@@ -1,4 +1,4 @@
--- A buffer is accepted exactly if its parts are as document 01 says: size, header, number of events, events in their order, unused slots.
+-- A buffer is accepted exactly if its parts are as document 01 says: size, header, version, number of events, events in their order, unused slots.
 use mathlib.Core.Path.{_≡_, refl, sym, ap, _∙_}
 use mathlib.Core.Bool.{Bool, true, false, cond, _&&_, and-true, and-false, and-assoc, and-eq-true-iff}
 use mathlib.Core.List.{List, _++_}
@@ -17,9 +17,9 @@ use Rattle.year.specs.Admissible.{admissible, valid}
 use Rattle.year.specs.Model.{Model, NoSetup, Year}
 use Rattle.year.proofs.Replayed.{replay-stored}
 use Rattle.year.proofs.Ranges.{valid-in-range}
-use Rattle.journal.specs.Encode.{header, slotOf, slots, encode, slotPlace}
+use Rattle.journal.specs.Encode.{canHold, header, slotOf, slots, encode, slotPlace, versionIn}
 use Rattle.journal.specs.Read.{setupIn, eventIn, eventsIn, readAs, readJournal}
-use Rattle.journal.specs.Acceptance.{isHeader, isSlot, entersAt, entersUpTo, Acceptable}
+use Rattle.journal.specs.Acceptance.{isHeader, isVersion, isSlot, entersAt, entersUpTo, Acceptable}
 use Rattle.journal.proofs.Encoded.{length-slots, length-encode}
 use Rattle.journal.proofs.Reading.{no-year}
 
@@ -73,17 +73,17 @@ module _ (journal : List ℕ) where
   count = getD journal 24 0
 
   -- whether encoding what is read gives the buffer again, part by part
-  encoded-is : same (encode (setupIn journal) (eventsIn journal count)) journal
+  encoded-is : same (encode (versionIn journal) (setupIn journal) (eventsIn journal count)) journal
       ≡ ((isHeader journal && same (slots (eventsIn journal count)) (body count)) && same (zeros (512 - 8 * count)) (drop (slotPlace count) journal))
   unfolding isHeader
   encoded-is =
       let s = setupIn journal in
       let es = eventsIn journal count in
-      ap (λ k. same (header s k ++ slots es ++ zeros (512 - 8 * k)) journal) (length-events journal count)
-      ∙ same-parts (header s count) (slots es) (zeros (512 - 8 * count)) journal 32 (8 * count) refl (slots-length count)
+      ap (λ k. same (header (versionIn journal) s k ++ slots es ++ zeros (512 - 8 * k)) journal) (length-events journal count)
+      ∙ same-parts (header (versionIn journal) s count) (slots es) (zeros (512 - 8 * count)) journal 32 (8 * count) refl (slots-length count)
 
   -- the test of a whole buffer, as tests of its parts
-  whole-is : (same (encode (setupIn journal) (eventsIn journal count)) journal && valid (setupIn journal) (eventsIn journal count))
+  whole-is : (same (encode (versionIn journal) (setupIn journal) (eventsIn journal count)) journal && valid (setupIn journal) (eventsIn journal count))
       ≡ (isHeader journal && same (zeros (512 - 8 * count)) (drop (slotPlace count) journal) && (setupInRange (setupIn journal) && entersUpTo journal count))
   whole-is = rw (encoded-is, enters-is count) (moved (isHeader journal) _ _ _)
     where
@@ -98,10 +98,10 @@ module _ (journal : List ℕ) where
 
   -- a buffer with acceptable parts is read as the setup and events in them
   pub acceptable-read : Acceptable journal → readJournal journal ≡ Year (setupIn journal) (eventsIn journal count)
-  unfolding readAs
+  unfolding readAs isVersion
   acceptable-read p =
       let unused = rw (rest-length (p .size)) at (p .unused) in
-      rw (whole-is, p .header, unused, p .setup, p .events)
+      rw (whole-is, p .header, unused, p .setup, p .events, p .version)
 
   tests-hold : (b : Bool) (t : Setup) (fs : List Event) → cond b (Year (setupIn journal) (eventsIn journal count)) NoSetup ≡ Year t fs → b ≡ true
   tests-hold true t fs h = refl
@@ -109,20 +109,22 @@ module _ (journal : List ℕ) where
 
   -- conversely, an accepted buffer has acceptable parts
   pub read-acceptable : (t : Setup) (fs : List Event) → readJournal journal ≡ Year t fs → Acceptable journal
-  unfolding readAs
+  unfolding readAs isVersion
   read-acceptable t fs h =
+      let v = versionIn journal in
       let s = setupIn journal in
       let es = eventsIn journal count in
       let zero = same (zeros (512 - 8 * count)) (drop (slotPlace count) journal) in
-      let whole = tests-hold (same (encode s es) journal && valid s es) t fs h in
-      let stored = and-eq-true-iff (same (encode s es) journal) (valid s es) .0 whole in
+      let all = and-eq-true-iff (same (encode v s es) journal && valid s es) (canHold v s es) .0 (tests-hold (same (encode v s es) journal && valid s es && canHold v s es) t fs h) in
+      let whole = all .0 in
+      let stored = and-eq-true-iff (same (encode v s es) journal) (valid s es) .0 whole in
       let parts = and-eq-true-iff (isHeader journal && zero) (setupInRange s && entersUpTo journal count) .0 (sym whole-is ∙ whole) in
       let front = and-eq-true-iff (isHeader journal) zero .0 (parts .0) in
       let year = and-eq-true-iff (setupInRange s) (entersUpTo journal count) .0 (parts .1) in
       let few : count ≤ 64 = omega (arith, valid-in-range s es (stored .1) .events, replay-stored s es, length-events journal count) in
       let size : length journal ≡ 544
-      = sym (ap length (same-equal (encode s es) journal (stored .0))) ∙ length-encode s es (omega (arith, length-events journal count)) in
-      record { size = size; header = front .0; setup = year .0; count = few; events = year .1; unused = rw (rest-length size) (front .1) }
+      = sym (ap length (same-equal (encode v s es) journal (stored .0))) ∙ length-encode v s es (omega (arith, length-events journal count)) in
+      record { size = size; header = front .0; version = all .1; setup = year .0; count = few; events = year .1; unused = rw (rest-length size) (front .1) }
 
   -- a buffer with an unacceptable part is not accepted
   pub not-acceptable : (Acceptable journal → ⊥) → readJournal journal ≡ NoSetup

@@ -9,12 +9,16 @@ use Rattle.buffers.specs.Bytes.{same, isZero}
 use Rattle.year.specs.Setup.{setupInRange}
 use Rattle.year.specs.Replay.{replay}
 use Rattle.year.specs.Admissible.{admissible}
-use Rattle.journal.specs.Encode.{header, slotOf, slotPlace}
+use Rattle.journal.specs.Encode.{canHold, header, slotOf, slotPlace, versionIn}
 use Rattle.journal.specs.Read.{setupIn, eventIn, eventsIn}
 
--- the first 32 bytes are exactly the header that encodes the setup and number of events decoded from them, whether or not these are in range
+-- the first 32 bytes are exactly the header that encodes the version, setup and number of events decoded from them, whether or not these are in range
 unfoldable pub isHeader : List ℕ → Bool
-isHeader journal = same (header (setupIn journal) (getD journal 24 0)) (take 32 journal)
+isHeader journal = same (header (versionIn journal) (setupIn journal) (getD journal 24 0)) (take 32 journal)
+
+-- the version is one that can hold the events of the slots, whatever these are
+unfoldable pub isVersion : List ℕ → ℕ → Bool
+isVersion journal count = canHold (versionIn journal) (setupIn journal) (eventsIn journal count)
 
 -- the eight bytes at the front of a part are exactly the slot that encodes the event decoded from them
 unfoldable pub isSlot : List ℕ → Bool
@@ -36,6 +40,8 @@ pub record Acceptable (journal : List ℕ) : Type 0 where
   -- "its first 32 bytes are as above"
   pub header : isHeader journal ≡ true
   pub setup : setupInRange (setupIn journal) ≡ true
+  -- version 2 if there is a strike among its events, version 1 if not
+  pub version : isVersion journal (getD journal 24 0) ≡ true
   -- "number of events, 0 to 64"
   pub count : getD journal 24 0 ≤ 64
   -- "its events could have been entered in that order"

@@ -1,5 +1,6 @@
 -- Document 01, "The book": what a buffer of any length and content is read as. A setup and events are decoded from the bytes, whatever they are; the journal is
--- accepted exactly if encoding these gives the same bytes, and they could have been entered in that order.
+-- accepted exactly if encoding these in the version that it says gives the same bytes, that version can hold them, and they could have been entered in that
+-- order.
 use mathlib.Core.Bool.{cond, _&&_}
 use mathlib.Core.List.{List, [], _∷_}
 use Prim.Native.Nat.{ℕ, zero, suc}
@@ -8,10 +9,10 @@ use lib.ListN.{getD, drop}
 use Rattle.buffers.specs.Bytes.{number16, number32, same}
 use Rattle.year.specs.declared.Setup.{Setup}
 use Rattle.year.specs.declared.Event.{Event}
-use Rattle.year.specs.declared.Event.the-variants.{Engine, Amendment, NextPeriod, Declaration}
+use Rattle.year.specs.declared.Event.the-variants.{Engine, Amendment, NextPeriod, Declaration, Deletion}
 use Rattle.year.specs.Admissible.{valid}
 use Rattle.year.specs.Model.{Model, NoSetup, Year}
-use Rattle.journal.specs.Encode.{encode, slotPlace}
+use Rattle.journal.specs.Encode.{canHold, encode, slotPlace, versionIn}
 
 -- the setup in the first 32 bytes
 abbrev pub setupIn : List ℕ → Setup
@@ -27,24 +28,26 @@ setupIn journal =
           };
     }
 
--- the event in the slot at the front of a part of the journal. Any kind other than 1, 2 and 3 is decoded as 4, and accepted only if it is 4
+-- the event in the slot at the front of a part of the journal. Any kind other than 1, 2, 3 and 5 is decoded as 4, and accepted only if it
+-- is 4
 abbrev pub eventIn : List ℕ → Event
 eventIn part =
     cond (eqb (getD part 0 0) 1)
     (Engine (number16 part 6) (getD part 1 0) (record { hcnox = number16 part 2; co = number16 part 4 }))
     (cond (eqb (getD part 0 0) 2)
     (Amendment (record { hcnox = number16 part 2; co = number16 part 4 }))
-    (cond (eqb (getD part 0 0) 3) NextPeriod Declaration))
+    (cond (eqb (getD part 0 0) 3) NextPeriod (cond (eqb (getD part 0 0) 5) Deletion Declaration)))
 
 -- the events of the first slots, the newest first
 abbrev pub eventsIn : List ℕ → ℕ → List Event
 eventsIn journal zero = []
 eventsIn journal (suc j) = eventIn (drop (slotPlace j) journal) ∷ eventsIn journal j
 
--- the year of this setup and these events, if the journal is their stored form and they could have been entered in that order
-unfoldable pub readAs : List ℕ → Setup → List Event → Model
-readAs journal s es = cond (same (encode s es) journal && valid s es) (Year s es) NoSetup
+-- the year of this setup and these events, if the journal is their stored form in this version, which can hold them, and they could have been entered in that
+-- order
+unfoldable pub readAs : List ℕ → ℕ → Setup → List Event → Model
+readAs journal v s es = cond (same (encode v s es) journal && valid s es && canHold v s es) (Year s es) NoSetup
 
 -- byte 24 is the number of events
 abbrev pub readJournal : List ℕ → Model
-readJournal journal = readAs journal (setupIn journal) (eventsIn journal (getD journal 24 0))
+readJournal journal = readAs journal (versionIn journal) (setupIn journal) (eventsIn journal (getD journal 24 0))

@@ -11,6 +11,7 @@ use Rattle.year.specs.Periods.{periods, needs}
 use Rattle.year.specs.Verdict.{verdict}
 use Rattle.year.specs.Admissible.{closed, admissible}
 use Rattle.year.proofs.Cases.{of-2367-3236}
+use Rattle.journal.specs.Encode.{canHold, append}
 use Rattle.journal.specs.Read.{readAs}
 use Rattle.reference.specs.Refusals.{refusals, refusal}
 use Rattle.reference.specs.Answers.{journalAfter, answer, outAfter, outPart}
@@ -18,7 +19,7 @@ use Rattle.reference.specs.Model.{stepModel}
 use Rattle.reference.specs.Cases.{Cases}
 
 pub cases : Cases
-unfolding nearestEven variation t95 sampleSize sizeReached compared failed undecided put periods needs verdict closed admissible readAs refusals refusal journalAfter answer outAfter outPart stepModel
+unfolding nearestEven variation t95 sampleSize sizeReached compared failed undecided put periods needs verdict closed admissible canHold append readAs refusals refusal journalAfter answer outAfter outPart stepModel
 cases =
     record {
       journalSize = refl;

@@ -13,7 +13,7 @@ use Rattle.reference.specs.Refusals.{refusals, refusal}
 use Rattle.reference.specs.CasesOfForty.{CasesOfForty}
 
 -- a year with verdict 3 still takes events
-open-at-3 : (p : Progress) → verdict 1024 p ≡ 3 → closed p ≡ false
+pub open-at-3 : (p : Progress) → verdict 1024 p ≡ 3 → closed p ≡ false
 unfolding closed
 open-at-3 p three = rw three
 

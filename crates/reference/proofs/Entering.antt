@@ -15,7 +15,7 @@ use Rattle.year.specs.Model.{Year}
 use Rattle.year.proofs.Ranges.{fitting}
 use Rattle.journal.specs.Read.{readJournal}
 use Rattle.reference.specs.Call.{Entry, EnterEngine, EnterChange, Enter, resultsOf, eventOf}
-use Rattle.reference.specs.declared.Change.the-variants.{Amend, BeginPeriod, Declare}
+use Rattle.reference.specs.declared.Change.the-variants.{Amend, BeginPeriod, Declare, Delete}
 use Rattle.reference.specs.Refusals.{refusals, refusal, countsFit, readingsFit}
 use Rattle.reference.specs.Answers.{refusalOn}
 use Rattle.reference.specs.Demand2.{unreadable}
@@ -65,3 +65,7 @@ module _ (journal : List ℕ) (s : Setup) (es : List Event) (e : readJournal jou
       let running = open-year event a in
       rw (year-size journal s es e, e, running .0, running .1, not-true (lastPeriod p || short p) (fitting p event a))
   could-enter (EnterChange Declare) a r = let running = open-year (eventOf p (EnterChange Declare)) a in rw (year-size journal s es e, e, running .0, running .1)
+  could-enter (EnterChange Delete) a r =
+      let event = eventOf p (EnterChange Delete) in
+      let running = open-year event a in
+      rw (year-size journal s es e, e, running .0, running .1, fitting p event a)

@@ -15,6 +15,7 @@ use Rattle.year.specs.declared.Status.{Status}
 use Rattle.year.specs.Replay.{replay}
 use Rattle.year.specs.Admissible.{admissible}
 use Rattle.year.specs.Model.{Model, NoSetup, Year, noSetup}
+use Rattle.journal.specs.Encode.{versionIn}
 use Rattle.journal.specs.Read.{readJournal}
 use Rattle.journal.proofs.OneJournal.{demand}
 use Rattle.journal.proofs.Reading.{read-few}
@@ -94,7 +95,7 @@ module _ (entry : Entry) (journal : List ℕ) (s : Setup) (es : List Event) (e :
 
 -- a journal that is read as a year has 544 bytes
 pub year-size : (journal : List ℕ) (s : Setup) (es : List Event) → readJournal journal ≡ Year s es → length journal ≡ 544
-year-size journal s es e = let j = demand .accepted journal s es e in ap length (j .stored) ∙ demand .size s es (j .valid)
+year-size journal s es e = let j = demand .accepted journal s es e in ap length (j .stored) ∙ demand .size (versionIn journal) s es (j .valid)
 
 -- status and marks on 544 bytes: accepted if these hold a year and the marks fit the output; refused by 7 if they hold none
 module _ (journal : List ℕ) (n : length journal ≡ 544) where

@@ -1,5 +1,6 @@
 pub mod Cases
 pub mod CasesOfForty
+pub mod CasesOfDeletion
 pub mod Validity
 pub mod WithSetup
 pub mod Stored
@@ -8,5 +9,6 @@ pub mod Given
 pub mod Entering
 pub mod Demand1
 pub mod Promises
+pub mod Deletion
 pub mod Demand2
 pub mod Demand3

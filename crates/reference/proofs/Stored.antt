@@ -10,6 +10,7 @@ use Rattle.year.specs.Replay.{replay}
 use Rattle.year.specs.Admissible.{valid}
 use Rattle.year.specs.Model.{Model, NoSetup, Year}
 use Rattle.year.proofs.Valid.{valid-next}
+use Rattle.journal.specs.Encode.{setupVersion, versionIn, raised}
 use Rattle.journal.specs.Read.{readJournal}
 use Rattle.journal.proofs.Cases.{cases}
 use Rattle.journal.proofs.OneJournal.{demand}
@@ -28,12 +29,12 @@ module _ (journal : List ℕ) (n : length journal ≡ 544) where
       let event = eventOf (replay s es) entry in
       let a = admitted s es entry h in
       let v = valid-next s event es (demand .accepted journal s es e .valid) a in
-      record { size = ap length (demand .appended journal s es event e a) ∙ demand .size s (event ∷ es) v; reads = demand .appendedRead journal s es event e a }
+      record { size = ap length (demand .appended journal s es event e a) ∙ demand .size (raised event (versionIn journal)) s (event ∷ es) v; reads = demand .appendedRead journal s es event e a }
 
   written-holds : (call : Call) → refusal 544 call (readJournal journal) ≡ 0 → Holds (written call journal) (accepted call (readJournal journal))
   written-holds (SetUp s) h =
       let v = setup-valid s (readJournal journal) h in
-      record { size = demand .size s [] v; reads = demand .readBack s [] v }
+      record { size = demand .size setupVersion s [] v; reads = demand .readBack setupVersion s [] (demand .version setupVersion s [] .1 refl) v }
   written-holds (Enter entry) h = entry-holds entry (readJournal journal) refl h
   written-holds (Ask query) h = record { size = n; reads = refl }
 

@@ -7,7 +7,7 @@ use lib.Dec.{eqb}
 use Rattle.buffers.specs.Bytes.{zeros}
 use Rattle.conditions.proofs.Tests.{cond-same}
 use Rattle.year.specs.Model.{Model, NoSetup, Year, noSetup}
-use Rattle.journal.specs.Encode.{encode}
+use Rattle.journal.specs.Encode.{setupVersion, encode}
 use Rattle.reference.specs.Call.{Call, SetUp, Enter, Ask}
 use Rattle.reference.specs.Refusals.{refusal}
 use Rattle.reference.specs.Answers.{journalAfter}
@@ -27,7 +27,7 @@ module _ (journal : List ℕ) (holds : Holds journal NoSetup) where
   unfolding journalAfter stepModel
   leaves (SetUp s) e = rw (holds .size, holds .reads) (by (eqb (refusal 544 (SetUp s) NoSetup) 0) e)
     where
-      by : (b : Bool) → cond b (Year s []) NoSetup ≡ NoSetup → cond b (encode s []) journal ≡ journal
+      by : (b : Bool) → cond b (Year s []) NoSetup ≡ NoSetup → cond b (encode setupVersion s []) journal ≡ journal
       by true h = absurd (false≢true (ap noSetup h))
       by false h = refl
   leaves (Enter entry) e = rw (holds .size, holds .reads) (cond-same (eqb (refusal 544 (Enter entry) NoSetup) 0) journal)

@@ -19,7 +19,7 @@ use Rattle.year.specs.Admissible.{closed, eventsFull, numberInRange, resultsInR
 use Rattle.year.specs.Model.{Model, NoSetup, Year}
 use Rattle.year.proofs.Valid.{valid-next}
 use Rattle.reference.specs.Call.{Readings, Entry, EnterEngine, EnterChange, Call, SetUp, Enter, Ask, resultsOf, eventOf}
-use Rattle.reference.specs.declared.Change.the-variants.{Amend, BeginPeriod, Declare}
+use Rattle.reference.specs.declared.Change.the-variants.{Amend, BeginPeriod, Declare, Delete}
 use Rattle.reference.specs.Refusals.{refusals, refusal}
 use Rattle.reference.specs.Model.{accepted, stepModel, modelOf}
 
@@ -59,6 +59,7 @@ module _ (s : Setup) (es : List Event) where
   entry-fits (EnterChange (Amend standards)) h = not-false _ (no (EnterChange (Amend standards)) h 5)
   entry-fits (EnterChange BeginPeriod) h = false-not (no (EnterChange BeginPeriod) h 15)
   entry-fits (EnterChange Declare) h = refl
+  entry-fits (EnterChange Delete) h = not-false _ (no (EnterChange Delete) h 17)
 
   -- the event of an accepted entry is admissible
   pub admitted : (entry : Entry) → refusal 544 (Enter entry) (Year s es) ≡ 0 → admissible (replay s es) (eventOf (replay s es) entry) ≡ true

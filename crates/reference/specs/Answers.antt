@@ -11,7 +11,7 @@ use Rattle.year.specs.declared.Status.{Status}
 use Rattle.year.specs.Replay.{Progress, replay}
 use Rattle.year.specs.Status.{blank, status, yearMarks}
 use Rattle.year.specs.Model.{Model, NoSetup, Year}
-use Rattle.journal.specs.Encode.{encode, append}
+use Rattle.journal.specs.Encode.{setupVersion, encode, append}
 use Rattle.journal.specs.Read.{readJournal}
 use Rattle.reference.specs.declared.Answer.{Answer}
 use Rattle.reference.specs.declared.Answer.the-variants.{Accepted, Refused}
@@ -31,14 +31,14 @@ module _ {A : Type 0} where
   abbrev pub ifAccepted : Call → List ℕ → A → A → A
   ifAccepted call journal accepted refused = cond (eqb (refusalOn call journal) 0) accepted refused
 
--- "Each other entry writes its slot and byte 24"
+-- "Each other entry writes its slot and byte 24", and the first strike byte 3
 abbrev pub withEntry : Entry → Model → List ℕ → List ℕ
 withEntry entry NoSetup journal = journal
 withEntry entry (Year s es) journal = append journal (eventOf (replay s es) entry)
 
 -- "Setup takes a buffer of any content and writes all of it." A query leaves the journal unchanged
 abbrev pub written : Call → List ℕ → List ℕ
-written (SetUp s) journal = encode s []
+written (SetUp s) journal = encode setupVersion s []
 written (Enter entry) journal = withEntry entry (readJournal journal) journal
 written (Ask query) journal = journal
 

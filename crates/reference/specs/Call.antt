@@ -1,4 +1,4 @@
--- The calls of document 01 with their arguments, which may have any value; and the event that an entry adds to a year.
+-- The calls of documents 01 and 02 with their arguments, which may have any value; and the event that an entry adds to a year.
 use mathlib.Core.Bool.{Bool, true, false}
 use mathlib.Core.List.{List}
 use Prim.Native.Nat.{ℕ}
@@ -7,11 +7,11 @@ use Rattle.rounding.specs.Result.{resultOf}
 use Rattle.year.specs.declared.Pair.{Pair}
 use Rattle.year.specs.declared.Setup.{Setup}
 use Rattle.year.specs.declared.Event.{Event}
-use Rattle.year.specs.declared.Event.the-variants.{Engine, Amendment, NextPeriod, Declaration}
+use Rattle.year.specs.declared.Event.the-variants.{Engine, Amendment, NextPeriod, Declaration, Deletion}
 use Rattle.year.specs.Setup.{Pollutant, Hcnox, Co, factorOf}
 use Rattle.year.specs.Replay.{Progress}
 use Rattle.reference.specs.declared.Change.{Change}
-use Rattle.reference.specs.declared.Change.the-variants.{Amend, BeginPeriod, Declare}
+use Rattle.reference.specs.declared.Change.the-variants.{Amend, BeginPeriod, Declare, Delete}
 
 -- an engine's readings for each pollutant
 pub record Readings : Type 0 where
@@ -22,8 +22,8 @@ abbrev pub readingsOf : Pollutant → Readings → List ℕ
 readingsOf Hcnox readings = readings .hcnox
 readingsOf Co readings = readings .co
 
--- the four entries: an engine with its number and readings; or a change, which has no readings: an amendment with the new standards, the next period, a
--- declaration
+-- the five entries: an engine with its number and readings; or a change, which has no readings: an amendment with the new standards, the next period, a
+-- declaration, a deletion ("strike")
 pub data Entry : Type 0 where
   EnterEngine : ℕ → Readings → Entry
   EnterChange : Change → Entry
@@ -41,7 +41,7 @@ pub data Query : Type 0 where
   ReadStatus : Query
   Write : Form → ℕ → Query
 
--- the seven calls: setup, four entries, two queries
+-- the eight calls: setup, five entries, two queries
 pub data Call : Type 0 where
   SetUp : Setup → Call
   Enter : Entry → Call
@@ -52,11 +52,13 @@ abbrev pub resultsOf : Setup → Readings → Pair
 resultsOf s readings =
     record { hcnox = resultOf (factorOf Hcnox s) (readings .hcnox); co = resultOf (factorOf Co s) (readings .co) }
 
--- "an engine with its number, reading count and the results worked from its readings, an amendment with its standards, a next period, a declaration"
+-- "an engine with its number, reading count and the results worked from its readings, an amendment with its standards, a next period, a declaration"; and
+-- of document 02, W-201, a strike
 abbrev pub changeEvent : Change → Event
 changeEvent (Amend standards) = Amendment standards
 changeEvent BeginPeriod = NextPeriod
 changeEvent Declare = Declaration
+changeEvent Delete = Deletion
 
 abbrev pub eventOf : Progress → Entry → Event
 eventOf p (EnterEngine number readings) = Engine number (length (readings .hcnox)) (resultsOf (p .setup) readings)
@@ -102,11 +104,19 @@ abbrev pub ofAmendment : (Pair → Bool) → Change → Bool
 ofAmendment test (Amend standards) = test standards
 ofAmendment test BeginPeriod = false
 ofAmendment test Declare = false
+ofAmendment test Delete = false
 
 abbrev pub ofPeriod : Bool → Change → Bool
 ofPeriod test (Amend standards) = false
 ofPeriod test BeginPeriod = test
 ofPeriod test Declare = false
+ofPeriod test Delete = false
+
+abbrev pub ofDeletion : Bool → Change → Bool
+ofDeletion test (Amend standards) = false
+ofDeletion test BeginPeriod = false
+ofDeletion test Declare = false
+ofDeletion test Delete = test
 
 abbrev pub ofMarks : (ℕ → Bool) → Query → Bool
 ofMarks test ReadStatus = false

@@ -111,20 +111,20 @@ pub record Cases : Type 0 where
   pub marksFit : refusal 544 (marksInto 2) (yearOf (engine 1 998 ∷ [])) ≡ 0
   -- on bytes: a refused call leaves them unchanged; a setup writes all of them, an entry adds its event
   pub refusedLeaves : journalAfter engineOne (zeros 544) ≡ zeros 544
-  pub declaredLeaves : journalAfter engineOne (encode (setupOf 5000 800) (Declaration ∷ [])) ≡ encode (setupOf 5000 800) (Declaration ∷ [])
+  pub declaredLeaves : journalAfter engineOne (encode 1 (setupOf 5000 800) (Declaration ∷ [])) ≡ encode 1 (setupOf 5000 800) (Declaration ∷ [])
   pub refusedAnswer : answer engineOne (zeros 544) ≡ Refused 7
-  pub setupWrites : journalAfter newYear (zeros 544) ≡ encode (setupOf 5000 800) []
+  pub setupWrites : journalAfter newYear (zeros 544) ≡ encode 1 (setupOf 5000 800) []
   pub setupAnswer : answer newYear (zeros 544) ≡ Accepted noStatus
-  pub entryWrites : journalAfter engineOne (encode (setupOf 5000 800) []) ≡ encode (setupOf 5000 800) (engine 1 998 ∷ [])
+  pub entryWrites : journalAfter engineOne (encode 1 (setupOf 5000 800) []) ≡ encode 1 (setupOf 5000 800) (engine 1 998 ∷ [])
   -- an entry answers with the status of the journal that it leaves: one engine, short, S 998 and 5,000
-  pub entryAnswer : answer engineOne (encode (setupOf 5000 800) []) ≡ Accepted (record { n = 1; verdict = 0; hcnox = onlySum 998; co = onlySum 5000 })
+  pub entryAnswer : answer engineOne (encode 1 (setupOf 5000 800) []) ≡ Accepted (record { n = 1; verdict = 0; hcnox = onlySum 998; co = onlySum 5000 })
   -- at the calculator's resolution of 1,024: s 52,857 for X 998 then 1,071; and T 10, X 2,367 then 3,236 has '?', where 1,023 and 1,025 would have 'O'
   pub statusAt1024 : statusOf (yearOf (engine 2 1071 ∷ engine 1 998 ∷ [])) .hcnox .deviation ≡ exactly 52857 1
   pub marksAt1024 : outBytes Marks (Year (setupOf 5000 10) (engine 2 3236 ∷ engine 1 2367 ∷ [])) ≡ text "--?U"
   -- marks at the front of the output, the rest of it unchanged; if refused, all of it unchanged
-  pub marksWritten : outAfter Marks (encode (setupOf 5000 800) (engine 1 998 ∷ [])) (1 ∷ 2 ∷ 3 ∷ []) ≡ 45 ∷ 45 ∷ 3 ∷ []
-  pub marksHandedBack : outPart Marks (encode (setupOf 5000 800) (engine 1 998 ∷ [])) (1 ∷ 2 ∷ 3 ∷ []) ≡ 45 ∷ 45 ∷ []
-  pub marksRefused : outAfter Marks (encode (setupOf 5000 800) (engine 1 998 ∷ [])) (1 ∷ []) ≡ 1 ∷ []
+  pub marksWritten : outAfter Marks (encode 1 (setupOf 5000 800) (engine 1 998 ∷ [])) (1 ∷ 2 ∷ 3 ∷ []) ≡ 45 ∷ 45 ∷ 3 ∷ []
+  pub marksHandedBack : outPart Marks (encode 1 (setupOf 5000 800) (engine 1 998 ∷ [])) (1 ∷ 2 ∷ 3 ∷ []) ≡ 45 ∷ 45 ∷ []
+  pub marksRefused : outAfter Marks (encode 1 (setupOf 5000 800) (engine 1 998 ∷ [])) (1 ∷ []) ≡ 1 ∷ []
   -- the model of a list: what comes before an accepted setup is refused, a second setup starts over
   pub modelOfNone : modelOf (changing Declare ∷ engineOne ∷ []) ≡ NoSetup
   pub modelOfOne : modelOf (engineOne ∷ engineOne ∷ newYear ∷ engineOne ∷ []) ≡ yearOf (engine 1 998 ∷ [])
@@ -141,4 +141,4 @@ pub record Cases : Type 0 where
   pub acceptedInList : setupAccepted (changing Declare ∷ newYear ∷ []) ≡ true
   pub refusedInList : setupAccepted (SetUp (setupWith 0 (pair 800 6100) noFactor) ∷ []) ≡ false
   -- the journal after the same lists
-  pub journalOfOne : journalOf (engineOne ∷ engineOne ∷ newYear ∷ engineOne ∷ []) ≡ encode (setupOf 5000 800) (engine 1 998 ∷ [])
+  pub journalOfOne : journalOf (engineOne ∷ engineOne ∷ newYear ∷ engineOne ∷ []) ≡ encode 1 (setupOf 5000 800) (engine 1 998 ∷ [])

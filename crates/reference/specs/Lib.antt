@@ -6,5 +6,7 @@ pub mod Stored
 pub mod Demand1
 pub mod Demand2
 pub mod Demand3
+pub mod Deletion
 pub mod Cases
 pub mod CasesOfForty
+pub mod CasesOfDeletion

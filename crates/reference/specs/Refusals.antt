@@ -1,5 +1,5 @@
--- Document 01, "Refused calls, in checking order", 3 to 16, for every call. (1 and 2 belong to the key line.) One table, over the call, the length of the
--- journal's buffer, and the year that it holds.
+-- Document 01, "Refused calls, in checking order", 3 to 16, for every call, and 17 of document 02, which is checked after 9. (1 and 2 belong to the key line.)
+-- One table, over the call, the length of the journal's buffer, and the year that it holds.
 use mathlib.Core.Bool.{Bool, true, not, _&&_, _||_}
 use mathlib.Core.List.{List, [], _∷_}
 use Prim.Native.Nat.{ℕ, _*_}
@@ -8,10 +8,10 @@ use lib.ListN.{length}
 use Rattle.conditions.specs.Rows.{Row, first}
 use Rattle.rounding.specs.Result.{countInRange, readingInRange}
 use Rattle.year.specs.Setup.{both, standardsInRange, productionInRange, factorsInRange}
-use Rattle.year.specs.Replay.{short, isTested}
+use Rattle.year.specs.Replay.{short, isTested, newestIn}
 use Rattle.year.specs.Admissible.{closed, eventsFull, enginesFull, numberInRange, resultsInRange, lastPeriod}
 use Rattle.year.specs.Model.{Model, noSetup, ofYear}
-use Rattle.reference.specs.Call.{Readings, readingsOf, Call, resultsOf, isSetup, addsEvent, ofSetup, ofEntry, ofQuery, ofEngine, ofChange, ofAmendment, ofPeriod, ofMarks}
+use Rattle.reference.specs.Call.{Readings, readingsOf, Call, resultsOf, isSetup, addsEvent, ofSetup, ofEntry, ofQuery, ofEngine, ofChange, ofAmendment, ofPeriod, ofDeletion, ofMarks}
 
 -- "The reading counts differ or are not 1 to 3."
 abbrev pub countsFit : Readings → Bool
@@ -42,6 +42,8 @@ refusals size call model =
     ∷ (addsEvent call && ofYear closed model, 8)
     -- 64 events are stored and the call would add one.
     ∷ (addsEvent call && ofYear eventsFull model, 9)
+    -- No engine of the current period to strike.
+    ∷ (ofEntry (ofChange (ofDeletion (ofYear (λ p. not (newestIn (p .period) (p .tested))) model))) call, 17)
     -- The engine number is out of range or in the book.
     ∷ (ofEntry (ofEngine (λ number readings. not (numberInRange number) || ofYear (λ p. isTested number (p .tested)) model)) call, 10)
     -- The reading counts differ or are not 1 to 3.

@@ -8,11 +8,12 @@ pub enum Answer {
     Refused(u8),
 }
 
-// A change: an entry without readings.
+// A change: an entry without readings. `Delete` ("strike" in document 02, W-201) removes the newest engine.
 pub enum Change {
     Amend(Pair),
     BeginPeriod,
     Declare,
+    Delete,
 }
 
 // What a call that writes an output returns besides the bytes: its refusal, 0 for none, and how many bytes it wrote.

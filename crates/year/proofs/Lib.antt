@@ -1,6 +1,7 @@
 pub mod Cases
 pub mod CasesOfRanges
 pub mod CasesOfVerdict
+pub mod CasesOfDeletion
 pub mod Replayed
 pub mod Finer
 pub mod Valid
@@ -8,3 +9,5 @@ pub mod Kept
 pub mod Ranges
 pub mod Closed
 pub mod Setups
+pub mod Deletions
+pub mod Remaining

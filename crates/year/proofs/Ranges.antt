@@ -6,18 +6,19 @@ use Prim.Native.Nat.{ℕ, _+_, _%_, _≤_, _<_}
 use native.Mathlib.Nat.{le-refl}
 use native.Mathlib.Omega.{arith}
 use lib.Dec.{leb, ltb, eqb}
-use lib.ListN.{length}
+use lib.ListN.{length, drop}
 use borrow.Author.Tests.{leb-true, leb-false, not-true, ne-eqb}
 use Rattle.conditions.specs.Ranges.{within}
 use Rattle.conditions.proofs.Tests.{by-test, or-false}
 use Rattle.rounding.specs.Result.{countInRange, resultInRange}
+use Rattle.statistics.specs.Ranges.{HistoryInRange}
 use Rattle.year.specs.declared.Pair.{Pair}
 use Rattle.year.specs.declared.Setup.{Setup}
 use Rattle.year.specs.declared.Event.{Event}
-use Rattle.year.specs.declared.Event.the-variants.{Engine, Amendment, NextPeriod, Declaration}
+use Rattle.year.specs.declared.Event.the-variants.{Engine, Amendment, NextPeriod, Declaration, Deletion}
 use Rattle.year.specs.Setup.{Pollutant, Hcnox, Co, of, productionInRange, standardInRange, standardsInRange, factorsInRange, setupInRange}
 use Rattle.year.specs.Periods.{periods}
-use Rattle.year.specs.Replay.{Tested, Progress, start, after, replay, testedIn, short, isTested}
+use Rattle.year.specs.Replay.{Tested, Progress, start, after, replay, history, testedIn, short, isTested}
 use Rattle.year.specs.Admissible.{closed, eventsFull, enginesFull, numberInRange, resultsInRange, lastPeriod, fits, admissible, valid}
 use Rattle.year.specs.Ranges.{PeriodsUpTo, InRange}
 use Rattle.year.proofs.Valid.{valid-before, valid-newest}
@@ -115,6 +116,15 @@ admitted-engine p n r xs h =
 pub period-room : (p : Progress) → admissible p NextPeriod ≡ true → p .period < periods (p .setup .volume) (p .setup .days)
 period-room p h = leb-false _ (p .period) (or-false (lastPeriod p) (short p) (not-true (lastPeriod p || short p) (fitting p NextPeriod h)) .0)
 
+-- without the newest engine
+periods-fewer : (n : ℕ) (xs : List Tested) → PeriodsUpTo n xs → PeriodsUpTo n (drop 1 xs)
+periods-fewer n [] r = r
+periods-fewer n (x ∷ xs) r = r .1
+
+history-fewer : (q : Pollutant) (xs : List Tested) → HistoryInRange 40 (history q xs) → HistoryInRange 40 (history q (drop 1 xs))
+history-fewer q [] r = r
+history-fewer q (x ∷ xs) r = record { few = omega (arith, r .few); tests = r .tests .2 }
+
 pub after-in-range : (e : Event) (p : Progress) → InRange p → admissible p e ≡ true → InRange (after e p)
 after-in-range (Engine number readings results) p r h =
     record {
@@ -142,6 +152,15 @@ after-in-range NextPeriod p r h =
     }
 after-in-range Declaration p r h =
     record { setup = r .setup; standards = r .standards; period = r .period; periods = r .periods; events = omega (arith, not-full p Declaration h); histories = r .histories }
+after-in-range Deletion p r h =
+    record {
+      setup = r .setup;
+      standards = r .standards;
+      period = r .period;
+      periods = periods-fewer (p .period) (p .tested) (r .periods);
+      events = omega (arith, not-full p Deletion h);
+      histories = λ q. history-fewer q (p .tested) (r .histories q);
+    }
 
 pub valid-in-range : (s : Setup) (es : List Event) → valid s es ≡ true → InRange (replay s es)
 valid-in-range s [] h = start-in-range s h

@@ -1,5 +1,5 @@
 -- Which events could have been entered, and in which order (document 01, "The book", with the ranges of "From reading to result" and the conditions of
--- its refusals 5, 8, 9, 10, 11, 13, 14 and 15). "each result from 0 to 20,000 being allowed, whether or not some reading yields it"
+-- its refusals 5, 8, 9, 10, 11, 13, 14 and 15, and of 17 in document 02). "each result from 0 to 20,000 being allowed, whether or not some reading yields it"
 use mathlib.Core.Bool.{Bool, true, not, _&&_, _||_}
 use mathlib.Core.List.{List, [], _∷_}
 use Prim.Native.Nat.{ℕ}
@@ -10,10 +10,10 @@ use Rattle.rounding.specs.Result.{countInRange, resultInRange}
 use Rattle.year.specs.declared.Pair.{Pair}
 use Rattle.year.specs.declared.Setup.{Setup}
 use Rattle.year.specs.declared.Event.{Event}
-use Rattle.year.specs.declared.Event.the-variants.{Engine, Amendment, NextPeriod, Declaration}
+use Rattle.year.specs.declared.Event.the-variants.{Engine, Amendment, NextPeriod, Declaration, Deletion}
 use Rattle.year.specs.Setup.{of, both, standardsInRange, setupInRange}
 use Rattle.year.specs.Periods.{periods}
-use Rattle.year.specs.Replay.{Progress, replay, short, isTested}
+use Rattle.year.specs.Replay.{Progress, replay, short, isTested, newestIn}
 use Rattle.year.specs.Verdict.{verdict}
 
 -- "The verdict is 6 or 7": the calculator's, at resolution 1,024
@@ -45,6 +45,8 @@ fits p (Engine number readings results) =
 fits p (Amendment standards) = standardsInRange standards
 fits p NextPeriod = not (lastPeriod p || short p)
 fits p Declaration = true
+-- "provided that engine was entered in the current period" (document 02, W-201)
+fits p Deletion = newestIn (p .period) (p .tested)
 
 -- the event could be entered now
 unfoldable pub admissible : Progress → Event → Bool

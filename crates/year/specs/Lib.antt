@@ -4,6 +4,7 @@ pub mod Replay
 pub mod Verdict
 pub mod Admissible
 pub mod Status
+pub mod Deletions
 pub mod Ranges
 pub mod Model
 pub mod Work
@@ -12,3 +13,4 @@ pub mod Cases
 pub mod StarredCases
 pub mod CasesOfRanges
 pub mod CasesOfVerdict
+pub mod CasesOfDeletion

@@ -4,11 +4,12 @@ use mathlib.Core.Bool.{Bool, true, false, cond, _||_}
 use mathlib.Core.List.{List, [], _∷_}
 use Prim.Native.Nat.{ℕ, _+_}
 use lib.Dec.{eqb, ltb}
+use lib.ListN.{drop}
 use Rattle.statistics.specs.Spread.{Test}
 use Rattle.year.specs.declared.Pair.{Pair}
 use Rattle.year.specs.declared.Setup.{Setup}
 use Rattle.year.specs.declared.Event.{Event}
-use Rattle.year.specs.declared.Event.the-variants.{Engine, Amendment, NextPeriod, Declaration}
+use Rattle.year.specs.declared.Event.the-variants.{Engine, Amendment, NextPeriod, Declaration, Deletion}
 use Rattle.year.specs.Setup.{Pollutant, of}
 use Rattle.year.specs.Periods.{needs}
 
@@ -38,25 +39,30 @@ standardsAfter (Engine number readings results) inForce = inForce
 standardsAfter (Amendment standards) inForce = standards
 standardsAfter NextPeriod inForce = inForce
 standardsAfter Declaration inForce = inForce
+standardsAfter Deletion inForce = inForce
 
 abbrev pub periodAfter : Event → ℕ → ℕ
 periodAfter (Engine number readings results) period = period
 periodAfter (Amendment standards) period = period
 periodAfter NextPeriod period = period + 1
 periodAfter Declaration period = period
+periodAfter Deletion period = period
 
--- an engine is tested under the standards in force, in the current period; an amendment "alters no N, mark or verdict already worked"
+-- an engine is tested under the standards in force, in the current period; an amendment "alters no N, mark or verdict already worked"; a strike "removes the
+-- newest engine still in the book" (document 02, W-201), and changes nothing else: standards in force, period and declaration stay
 abbrev pub testedAfter : Event → Progress → List Tested
 testedAfter (Engine number readings results) p = record { number = number; results = results; standards = p .standards; period = p .period } ∷ p .tested
 testedAfter (Amendment standards) p = p .tested
 testedAfter NextPeriod p = p .tested
 testedAfter Declaration p = p .tested
+testedAfter Deletion p = drop 1 (p .tested)
 
 abbrev pub declaredAfter : Event → Bool → Bool
 declaredAfter (Engine number readings results) declared = declared
 declaredAfter (Amendment standards) declared = declared
 declaredAfter NextPeriod declared = declared
 declaredAfter Declaration declared = true
+declaredAfter Deletion declared = declared
 
 abbrev pub after : Event → Progress → Progress
 after e p =
@@ -82,6 +88,11 @@ history q (x ∷ xs) = record { result = of q (x .results); standard = of q (x .
 abbrev pub testedIn : ℕ → List Tested → ℕ
 testedIn period [] = 0
 testedIn period (x ∷ xs) = cond (eqb (x .period) period) 1 0 + testedIn period xs
+
+-- whether the newest engine was tested in a period; false if there is no engine
+abbrev pub newestIn : ℕ → List Tested → Bool
+newestIn period [] = false
+newestIn period (x ∷ xs) = eqb (x .period) period
 
 -- "the current period lacks its engines"
 abbrev pub short : Progress → Bool

@@ -30,7 +30,8 @@ pub struct Setup {
     pub factors: Factors,
 }
 
-// What is stored for an accepted entry. `readings` is the number of readings for each pollutant.
+// What is stored for an accepted entry. `readings` is the number of readings for each pollutant. A deletion ("strike" in document 02, W-201) removes the newest
+// engine.
 pub enum Event {
     Engine {
         number: u32,
@@ -40,6 +41,7 @@ pub enum Event {
     Amendment(Pair),
     NextPeriod,
     Declaration,
+    Deletion,
 }
 
 // One pollutant of a status: S, s and e, both C, both H, N in tenths, and the newest mark.

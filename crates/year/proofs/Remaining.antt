@@ -1,0 +1,166 @@
+-- The events that remain could have been entered by themselves: no deletion is among them, and each was admissible after those before it.
+use mathlib.Core.Path.{_≡_, refl, sym, ap, _∙_}
+use mathlib.Core.Bool.{Bool, true, false, not, _&&_, _||_, true≢false, false≢true, and-eq-true-iff}
+use mathlib.Core.List.{List, [], _∷_}
+use Prim.Native.Nat.{ℕ, _+_, _≤_, _<_}
+use native.Mathlib.Omega.{arith}
+use lib.ListN.{length, drop}
+use borrow.Author.Tests.{lt-leb, not-true, ne-eqb}
+use Rattle.conditions.proofs.Tests.{or-false}
+use Rattle.cumsum.specs.Marks.{mark, marks, bothOver, consecutive, failed}
+use Rattle.year.specs.declared.Setup.{Setup}
+use Rattle.year.specs.declared.Event.{Event}
+use Rattle.year.specs.declared.Event.the-variants.{Engine, Amendment, NextPeriod, Declaration, Deletion}
+use Rattle.year.specs.Setup.{Pollutant, Hcnox, Co}
+use Rattle.year.specs.Replay.{Tested, Progress, after, replay, history, newestIn}
+use Rattle.year.specs.Verdict.{verdict}
+use Rattle.year.specs.Status.{status, yearMarks}
+use Rattle.year.specs.Admissible.{closed, eventsFull, fits, admissible, valid}
+use Rattle.year.specs.Deletions.{hasDeletion, withoutNewest, remaining, storing, Deletions}
+use Rattle.year.specs.Ranges.{PeriodsUpTo}
+use Rattle.year.proofs.Replayed.{replay-stored}
+use Rattle.year.proofs.Valid.{valid-before, valid-newest, valid-next}
+use Rattle.year.proofs.Ranges.{not-full, fitting, valid-in-range}
+use Rattle.year.proofs.Closed.{closed-is}
+use Rattle.year.proofs.Deletions.{storing-status, deleted, of-remaining}
+
+-- ---- no deletion remains
+
+none-without : (es : List Event) → hasDeletion es ≡ false → hasDeletion (withoutNewest es) ≡ false
+none-without [] h = refl
+none-without (Engine number readings results ∷ es) h = h
+none-without (Amendment standards ∷ es) h = none-without es h
+none-without (NextPeriod ∷ es) h = none-without es h
+none-without (Declaration ∷ es) h = none-without es h
+none-without (Deletion ∷ es) h = absurd (true≢false h)
+
+pub none-remains : (es : List Event) → hasDeletion (remaining es) ≡ false
+none-remains [] = refl
+none-remains (Engine number readings results ∷ es) = none-remains es
+none-remains (Amendment standards ∷ es) = none-remains es
+none-remains (NextPeriod ∷ es) = none-remains es
+none-remains (Declaration ∷ es) = none-remains es
+none-remains (Deletion ∷ es) = none-without (remaining es) (none-remains es)
+
+-- ---- there are no more events than before
+
+length-without : (es : List Event) → length (withoutNewest es) ≤ length es
+length-without [] = omega arith
+length-without (Engine number readings results ∷ es) = omega arith
+length-without (Amendment standards ∷ es) = omega (arith, length-without es)
+length-without (NextPeriod ∷ es) = omega (arith, length-without es)
+length-without (Declaration ∷ es) = omega (arith, length-without es)
+length-without (Deletion ∷ es) = omega (arith, length-without es)
+
+length-remaining : (es : List Event) → length (remaining es) ≤ length es
+length-remaining [] = omega arith
+length-remaining (Engine number readings results ∷ es) = omega (arith, length-remaining es)
+length-remaining (Amendment standards ∷ es) = omega (arith, length-remaining es)
+length-remaining (NextPeriod ∷ es) = omega (arith, length-remaining es)
+length-remaining (Declaration ∷ es) = omega (arith, length-remaining es)
+length-remaining (Deletion ∷ es) = omega (arith, length-remaining es, length-without (remaining es))
+
+-- ---- a year that takes events still takes them without its newest engine
+
+fewer-failed : (q : Pollutant) (xs : List Tested) → failed (marks 1024 (history q xs)) ≡ false → failed (marks 1024 (history q (drop 1 xs))) ≡ false
+unfolding failed
+fewer-failed q [] h = h
+fewer-failed q (x ∷ []) h = refl
+fewer-failed q (x ∷ y ∷ xs) h =
+    or-false (bothOver (mark 1024 (history q (x ∷ y ∷ xs))) (mark 1024 (history q (y ∷ xs)))) (consecutive bothOver (marks 1024 (history q (y ∷ xs)))) h .1
+
+open-fewer : (p : Progress) → closed p ≡ false → closed (after Deletion p) ≡ false
+open-fewer p h =
+    let a = or-false (p .declared) _ (sym (closed-is p) ∙ h) in
+    let b = or-false (failed (marks 1024 (history Hcnox (p .tested)))) (failed (marks 1024 (history Co (p .tested)))) (a .1) in
+    closed-is (after Deletion p) ∙ rw (a .0, fewer-failed Hcnox (p .tested) (b .0), fewer-failed Co (p .tested) (b .1))
+
+-- ---- how many events are stored matters only to "64 events are stored"
+
+pub storing-closed : (n : ℕ) (p : Progress) → closed (storing n p) ≡ closed p
+unfolding closed verdict
+storing-closed n p = refl
+
+storing-fits : (n : ℕ) (p : Progress) (e : Event) → fits (storing n p) e ≡ fits p e
+storing-fits n p (Engine number readings results) = refl
+storing-fits n p (Amendment standards) = refl
+storing-fits n p NextPeriod = refl
+storing-fits n p Declaration = refl
+storing-fits n p Deletion = refl
+
+-- an event is admissible exactly if the year is open, a slot is free, and the event fits
+admitted : (p : Progress) (e : Event) → closed p ≡ false → p .stored < 64 → fits p e ≡ true → admissible p e ≡ true
+unfolding admissible
+admitted p e c n f = rw (c, lt-leb 64 (p .stored) n, f)
+
+admitted-open : (p : Progress) (e : Event) → admissible p e ≡ true → closed p ≡ false
+unfolding admissible
+admitted-open p e h =
+    let t = and-eq-true-iff (not (closed p) && not (eventsFull p)) (fits p e) .0 h .0 in
+    not-true (closed p) (and-eq-true-iff (not (closed p)) (not (eventsFull p)) .0 t .0)
+
+fewer-stored : (n : ℕ) (p : Progress) (e : Event) → p .stored ≤ n → admissible (storing n p) e ≡ true → admissible p e ≡ true
+fewer-stored n p e le h =
+    admitted p e (sym (storing-closed n p) ∙ admitted-open (storing n p) e h) (omega (arith, not-full (storing n p) e h))
+    (sym (storing-fits n p e) ∙ fitting (storing n p) e h)
+
+-- ---- so the remaining events could have been entered
+
+-- the newest engine is not of a period to come
+not-later : (n : ℕ) (xs : List Tested) → PeriodsUpTo n xs → newestIn (n + 1) xs ≡ false
+not-later n [] r = refl
+not-later n (x ∷ xs) r = ne-eqb (x .period) (n + 1) (λ e. absurd (omega (arith, r .0)))
+
+module _ (s : Setup) where
+  -- the events of an open year without its newest engine, which is of the current period: only amendments came after that engine
+  without-valid : (es : List Event) → hasDeletion es ≡ false → valid s es ≡ true → newestIn (replay s es .period) (replay s es .tested) ≡ true
+      → closed (replay s es) ≡ false → valid s (withoutNewest es) ≡ true
+  without-valid [] none v newest still = absurd (false≢true newest)
+  without-valid (Engine number readings results ∷ es) none v newest still = valid-before s (Engine number readings results) es v
+  without-valid (Amendment standards ∷ es) none v newest still =
+      let e = Amendment standards in
+      let p = replay s es in
+      let a = valid-newest s e es v in
+      let o = admitted-open p e a in
+      let fewer = replay s (withoutNewest es) in
+      let same : closed fewer ≡ closed (after Deletion p)
+      = sym (storing-closed 0 fewer) ∙ ap closed (sym (deleted s 0 es)) ∙ storing-closed 0 (after Deletion p) in
+      valid-next s e (withoutNewest es) (without-valid es none (valid-before s e es v) newest o)
+      (admitted fewer e (same ∙ open-fewer p o)
+      (omega (arith, not-full p e a, replay-stored s es, replay-stored s (withoutNewest es), length-without es)) (fitting p e a))
+  without-valid (NextPeriod ∷ es) none v newest still =
+      let p = replay s es in
+      absurd (false≢true (sym (not-later (p .period) (p .tested) (valid-in-range s es (valid-before s NextPeriod es v) .periods)) ∙ newest))
+  without-valid (Declaration ∷ es) none v newest still = absurd (true≢false (sym (closed-is (replay s (Declaration ∷ es))) ∙ still))
+  without-valid (Deletion ∷ es) none v newest still = absurd (true≢false none)
+
+  -- what is admissible is so among the remaining events
+  next-admitted : (e : Event) (es : List Event) → admissible (replay s es) e ≡ true → admissible (replay s (remaining es)) e ≡ true
+  next-admitted e es a =
+      fewer-stored (length es) (replay s (remaining es)) e (omega (arith, replay-stored s (remaining es), length-remaining es))
+      (sym (ap (λ (p : Progress). admissible p e) (of-remaining s es)) ∙ a)
+
+  keeps : (e : Event) (es : List Event) → valid s (e ∷ es) ≡ true → valid s (remaining es) ≡ true → valid s (e ∷ remaining es) ≡ true
+  keeps e es v w = valid-next s e (remaining es) w (next-admitted e es (valid-newest s e es v))
+
+  pub remaining-valid : (es : List Event) → valid s es ≡ true → valid s (remaining es) ≡ true
+  remaining-valid [] v = v
+  remaining-valid (Engine number readings results ∷ es) v = keeps (Engine number readings results) es v (remaining-valid es (valid-before s (Engine number readings results) es v))
+  remaining-valid (Amendment standards ∷ es) v = keeps (Amendment standards) es v (remaining-valid es (valid-before s (Amendment standards) es v))
+  remaining-valid (NextPeriod ∷ es) v = keeps NextPeriod es v (remaining-valid es (valid-before s NextPeriod es v))
+  remaining-valid (Declaration ∷ es) v = keeps Declaration es v (remaining-valid es (valid-before s Declaration es v))
+  remaining-valid (Deletion ∷ es) v =
+      let w = remaining-valid es (valid-before s Deletion es v) in
+      let a = next-admitted Deletion es (valid-newest s Deletion es v) in
+      let p = replay s (remaining es) in
+      without-valid (remaining es) (none-remains es) w (fitting p Deletion a) (admitted-open p Deletion a)
+
+pub deletions : (s : Setup) (es : List Event) → Deletions s es
+deletions s es =
+    record {
+      year = of-remaining s es;
+      status = λ k. ap (status k) (of-remaining s es) ∙ storing-status (length es) (replay s (remaining es)) k;
+      marks = λ k. ap (yearMarks k) (of-remaining s es);
+      none = none-remains es;
+      entered = remaining-valid s es;
+    }
