@@ -6,6 +6,7 @@ use conditions::both;
 use conditions::either;
 use conditions::within;
 use engines::lookup::is_tested;
+use engines::lookup::newest_in;
 use progress::Progress;
 use results::count_in_range;
 use results::result_in_range;
@@ -56,6 +57,15 @@ pub fn period_fits(p: Progress) -> bool
     !either(last, is_short(p.current, p.period))
 }
 
+// A deletion ("strike"): the newest engine was entered in the current period.
+pub fn deletion_fits(p: Progress) -> bool
+    requires { ⌜ Consistent p ⌝ }
+    ensures { λ r. ⌜ r ≡ fits (progressOf p) Event.Deletion ⌝ }
+{
+    let engines = p.engines;
+    newest_in(engines, p.period)
+}
+
 // The conditions that depend on the event's kind.
 fn event_fits(p: Progress, e: Event) -> bool
     requires { ⌜ Consistent p ⌝ }
@@ -70,6 +80,7 @@ fn event_fits(p: Progress, e: Event) -> bool
         Event::Amendment(standards) => standards_in_range(standards),
         Event::NextPeriod => period_fits(p),
         Event::Declaration => true,
+        Event::Deletion => deletion_fits(p),
     }
 }
 

@@ -1,20 +1,20 @@
--- Laws of the arrays of tested engines: how many engines they hold, one pollutant's arrays, an earlier part, one more engine.
+-- Laws of the arrays of tested engines: how many engines they hold, one pollutant's arrays, an earlier part, one more engine, one less.
 use mathlib.Core.Path.{_≡_, refl, sym, ap, _∙_}
 use mathlib.Core.Bool.{Bool, false, _||_}
 use mathlib.Core.List.{List, _∷_}
 use mathlib.Core.Logic.{⊎-elim}
-use Prim.Native.Nat.{ℕ, zero, suc, _+_, _≤_, _<_}
+use Prim.Native.Nat.{ℕ, zero, suc, _+_, _-_, _≤_, _<_}
 use native.Mathlib.Nat.{le-suc-iff}
 use native.Mathlib.Numerals.{add-one}
 use native.Mathlib.Omega.{arith}
 use lib.Dec.{eqb}
-use lib.ListN.{length, getD, set, length-set}
+use lib.ListN.{length, getD, set, drop, length-set}
 use lib.Seq.{getD-set-same, getD-set-other}
 use Rattle.statistics.specs.Spread.{Test}
 use Rattle.statistics.specs.Ranges.{TestsInRange}
 use Rattle.year.specs.declared.Pair.{Pair}
 use Rattle.year.specs.Setup.{Pollutant, Hcnox, Co}
-use Rattle.year.specs.Replay.{Tested, history, isTested}
+use Rattle.year.specs.Replay.{Tested, history, isTested, newestIn}
 use Rattle.figures.specs.declared.Running.{Running}
 use Rattle.figures.specs.Running.{running, RunningInRange}
 use Rattle.engines.specs.declared.Engines.{Engines}
@@ -103,6 +103,47 @@ module _ (e : Engines) (number period : ℕ) (results standards : Pair) where
       standards-kept : (q : Pollutant) → length (standardColumn q with-engine) ≡ 40
       standards-kept Hcnox = rw length-set (s .standards Hcnox)
       standards-kept Co = rw length-set (s .standards Co)
+
+-- without the newest engine: its place is unused again
+module _ (e : Engines) where
+  abbrev pub without-newest : Engines
+  without-newest =
+      record {
+        count = e .count - 1;
+        numbers = e .numbers;
+        periods = e .periods;
+        «hcnox_results» = e .«hcnox_results»;
+        «hcnox_standards» = e .«hcnox_standards»;
+        «co_results» = e .«co_results»;
+        «co_standards» = e .«co_standards»;
+      }
+
+  same-places : (n : ℕ) → testedTo without-newest n ≡ testedTo e n
+  same-places zero = refl
+  same-places (suc n) = joined refl (same-places n)
+
+  before-newest : (n : ℕ) → testedTo e (n - 1) ≡ drop 1 (testedTo e n)
+  before-newest zero = refl
+  before-newest (suc n) = let m : suc n - 1 ≡ n = omega arith in rw m
+
+  pub tested-fewer : tested without-newest ≡ drop 1 (tested e)
+  tested-fewer = same-places (e .count - 1) ∙ before-newest (e .count)
+
+  pub fewer-sized : Sized e → Sized without-newest
+  fewer-sized s = record { numbers = s .numbers; periods = s .periods; results = results-kept; standards = standards-kept }
+    where
+      results-kept : (q : Pollutant) → length (resultColumn q without-newest) ≡ 40
+      results-kept Hcnox = s .results Hcnox
+      results-kept Co = s .results Co
+
+      standards-kept : (q : Pollutant) → length (standardColumn q without-newest) ≡ 40
+      standards-kept Hcnox = s .standards Hcnox
+      standards-kept Co = s .standards Co
+
+-- the newest engine's period is at the last place in use
+pub newest-at : (e : Engines) (period n : ℕ) → 1 ≤ n → newestIn period (testedTo e n) ≡ eqb (getD (e .periods) (n - 1) 0) period
+newest-at e period zero h = absurd (omega arith)
+newest-at e period (suc n) h = let m : suc n - 1 ≡ n = omega arith in rw m
 
 -- whether a number is among the first i of a list
 abbrev pub among : List ℕ → ℕ → ℕ → Bool

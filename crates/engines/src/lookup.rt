@@ -1,7 +1,7 @@
-// Look-up of an engine number among the tested engines.
+// Look-up of an engine number among the tested engines, and of the newest engine's period.
 ghost use mathlib.Core.Path.{_≡_};
 ghost use Prim.Native.Nat.{_≤_};
-ghost use Rattle.year.specs.Replay.{isTested};
+ghost use Rattle.year.specs.Replay.{isTested, newestIn};
 ghost use Rattle.engines.specs.Engines.{tested};
 use crate::Engines;
 use conditions::either;
@@ -19,4 +19,17 @@ pub fn is_tested(e: Engines, number: u32) -> bool
         i += 1;
     }
     found
+}
+
+// Whether the newest engine was tested in a period; false if there is no engine.
+pub fn newest_in(e: Engines, period: u32) -> bool
+    requires { ⌜ e .count ≤ 40 ⌝ }
+    ensures { λ r. ⌜ r ≡ newestIn period (tested e) ⌝ }
+{
+    let periods = e.periods;
+    let count = e.count;
+    if count == 0 {
+        return false;
+    }
+    periods[count - 1] as u32 == period
 }

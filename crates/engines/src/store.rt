@@ -1,6 +1,8 @@
-// Adding an engine.
+// Adding an engine, and removing the newest.
 ghost use mathlib.Core.Path.{_≡_};
 ghost use mathlib.Core.List.{[], _∷_};
+ghost use Prim.Native.Nat.{_≤_};
+ghost use lib.ListN.{drop};
 ghost use Rattle.engines.specs.Engines.{tested, EngineInRange};
 use crate::Engines;
 use year::MOST_ENGINES;
@@ -40,5 +42,14 @@ pub fn with_engine(
     e.hcnox_standards[at] = standards.hcnox as u16;
     e.co_results[at] = results.co as u16;
     e.co_standards[at] = standards.co as u16;
+    e
+}
+
+// The arrays without the newest engine: its place is unused again.
+pub fn without_newest(mut e: Engines) -> Engines
+    requires { ⌜ 1 ≤ e .count ⌝ }
+    ensures { λ r. ⌜ tested r ≡ drop 1 (tested e) ⌝ }
+{
+    e.count = e.count - 1;
     e
 }

@@ -11,7 +11,7 @@ use Rattle.buffers.specs.Bytes.{same, isZero}
 use Rattle.conditions.proofs.Tests.{eqb-refl, eqb-sym}
 use Rattle.buffers.proofs.Lists.{part-elements}
 use Rattle.buffers.proofs.LittleEndian.{Bytes, low, high}
-use Rattle.year.specs.declared.Event.the-variants.{NextPeriod, Declaration}
+use Rattle.year.specs.declared.Event.the-variants.{NextPeriod, Declaration, Deletion}
 use Rattle.journal.specs.Encode.{slotOf}
 use Rattle.journal.specs.Acceptance.{isSlot}
 
@@ -26,13 +26,15 @@ module _ (part : List ℕ) (bytes : Bytes part) (long : 8 ≤ length part) where
       rw (part-elements part 0 8 long, part-elements part 1 1 (omega arith), part-elements part 6 2 (omega arith), e)
       (simp (low part bytes, high part bytes, eqb-refl, and-true))
 
-  -- after kinds 1 and 2: kind 3 is a next period, and any other kind is read as a declaration
-  last-two : (t : Bool) → eqb (getD part 0 0) 3 ≡ t
-      → ((t || eqb (getD part 0 0) 4) && isZero (take 7 (drop 1 part))) ≡ same (slotOf (cond t NextPeriod Declaration)) (take 8 part)
-  last-two true h = rw (part-elements part 0 8 long, part-elements part 1 7 (omega arith), eqb-true (getD part 0 0) 3 h)
-  last-two false h = rw (part-elements part 0 8 long, part-elements part 1 7 (omega arith), eqb-sym (getD part 0 0) 4)
+  -- after kinds 1 and 2: kind 3 is a next period, kind 5 a deletion, and any other kind is read as a declaration
+  last-three : (t u : Bool) → eqb (getD part 0 0) 3 ≡ t → eqb (getD part 0 0) 5 ≡ u
+      → ((t || u || eqb (getD part 0 0) 4) && isZero (take 7 (drop 1 part))) ≡ same (slotOf (cond t NextPeriod (cond u Deletion Declaration))) (take 8 part)
+  last-three true u h k = rw (part-elements part 0 8 long, part-elements part 1 7 (omega arith), eqb-true (getD part 0 0) 3 h)
+  last-three false true h k = rw (part-elements part 0 8 long, part-elements part 1 7 (omega arith), eqb-true (getD part 0 0) 5 k)
+  last-three false false h k = rw (part-elements part 0 8 long, part-elements part 1 7 (omega arith), eqb-sym (getD part 0 0) 4)
 
   pub other-slot : (getD part 0 0 ≡ 1 → ⊥) → (getD part 0 0 ≡ 2 → ⊥)
-      → ((eqb (getD part 0 0) 3 || eqb (getD part 0 0) 4) && isZero (take 7 (drop 1 part))) ≡ isSlot part
+      → ((eqb (getD part 0 0) 3 || eqb (getD part 0 0) 5 || eqb (getD part 0 0) 4) && isZero (take 7 (drop 1 part))) ≡ isSlot part
   unfolding isSlot
-  other-slot p q = rw (ne-eqb (getD part 0 0) 1 p, ne-eqb (getD part 0 0) 2 q) (last-two (eqb (getD part 0 0) 3) refl)
+  other-slot p q =
+      rw (ne-eqb (getD part 0 0) 1 p, ne-eqb (getD part 0 0) 2 q) (last-three (eqb (getD part 0 0) 3) (eqb (getD part 0 0) 5) refl refl)

@@ -36,6 +36,9 @@ pub fn event_at(part: &[u8]) -> Event
     if kind == 3 {
         return Event::NextPeriod;
     }
+    if kind == 5 {
+        return Event::Deletion;
+    }
     Event::Declaration
 }
 
@@ -51,5 +54,6 @@ pub fn is_slot(part: &[u8]) -> bool
     if kind == 2 {
         return both(is_zero(&part[1..2]), is_zero(&part[6..8]));
     }
-    both(either(kind == 3, kind == 4), is_zero(&part[1..8]))
+    let bare = either(either(kind == 3, kind == 5), kind == 4);
+    both(bare, is_zero(&part[1..8]))
 }

@@ -3,7 +3,7 @@ use mathlib.Core.Path.{_≡_}
 use mathlib.Core.Bool.{true}
 use native.Mathlib.Omega.{arith}
 use Rattle.year.specs.declared.Event.{Event}
-use Rattle.year.specs.declared.Event.the-variants.{Engine, Amendment, NextPeriod, Declaration}
+use Rattle.year.specs.declared.Event.the-variants.{Engine, Amendment, NextPeriod, Declaration, Deletion}
 use Rattle.year.specs.Replay.{Progress}
 use Rattle.year.specs.Admissible.{admissible}
 use Rattle.year.proofs.Ranges.{admitted-engine}
@@ -14,3 +14,4 @@ event-fits p (Engine number readings results) h = omega (arith, admitted-engine 
 event-fits p (Amendment standards) h = omega arith
 event-fits p NextPeriod h = omega arith
 event-fits p Declaration h = omega arith
+event-fits p Deletion h = omega arith

@@ -1,20 +1,22 @@
 -- What a state carries beside the year, part by part: the number of engines, and each pollutant's figures with their ranges.
 use mathlib.Core.Path.{_≡_, ap}
-use mathlib.Core.Bool.{true}
+use mathlib.Core.Bool.{true, false≢true}
+use mathlib.Core.List.{List, [], _∷_}
 use Prim.Native.Nat.{ℕ, _≤_, _<_}
 use native.Mathlib.Omega.{arith}
-use lib.ListN.{length}
+use lib.ListN.{length, drop}
 use Rattle.cumsum.specs.Marks.{marks, failed, undecided}
 use Rattle.year.specs.declared.Pair.{Pair}
-use Rattle.year.specs.declared.Event.the-variants.{Engine}
+use Rattle.year.specs.declared.Event.the-variants.{Engine, Deletion}
 use Rattle.year.specs.Setup.{Pollutant, Hcnox, Co, of}
-use Rattle.year.specs.Replay.{history}
+use Rattle.year.specs.Replay.{Tested, history, testedIn, newestIn}
 use Rattle.year.specs.Admissible.{admissible}
 use Rattle.year.proofs.Replayed.{history-length}
-use Rattle.year.proofs.Ranges.{standard-le, tested-in-le, admitted-engine}
+use Rattle.year.proofs.Ranges.{standard-le, tested-in-le, fitting, admitted-engine, after-in-range}
 use Rattle.figures.specs.declared.Running.{Running}
 use Rattle.figures.specs.Running.{running, RunningInRange, Worked}
-use Rattle.engines.specs.Engines.{tested, EngineInRange}
+use Rattle.engines.specs.declared.Engines.{Engines}
+use Rattle.engines.specs.Engines.{tested, EngineInRange, EnginesInRange}
 use Rattle.engines.proofs.Arrays.{tested-length}
 use Rattle.progress.specs.declared.Progress.{Progress as State}
 use Rattle.progress.specs.State.{progressOf, Consistent}
@@ -29,6 +31,17 @@ pub record Room (p : State) (number : ℕ) (results : Pair) : Type 0 where
   pub engine : EngineInRange (p .engines) number results (p .standards) (p .period)
   pub current : p .current ≤ 40
   pub figures : (q : Pollutant) → RunningInRange 1024 (figuresOf q p) (of q results)
+
+-- the newest engine can go: there is one, it is counted in the current period, and those that remain are in range
+pub record Deletable (p : State) : Type 0 where
+  pub place : 1 ≤ p .engines .count
+  pub current : 1 ≤ p .current
+  pub rest : (e : Engines) → tested e ≡ drop 1 (tested (p .engines)) → EnginesInRange e 1024
+
+-- a period whose engine is the newest has one
+some-in : (period : ℕ) (xs : List Tested) → newestIn period xs ≡ true → 1 ≤ testedIn period xs
+some-in period [] h = absurd (false≢true h)
+some-in period (x ∷ xs) h = rw h (omega arith)
 
 module _ (p : State) (c : Consistent p) where
   pub counted : length (tested (p .engines)) ≡ p .engines .count
@@ -70,4 +83,14 @@ module _ (p : State) (c : Consistent p) where
               result = a .results q;
               fine = omega arith;
             };
+      }
+
+  pub deletable : admissible (progressOf p) Deletion ≡ true → Deletable p
+  deletable h =
+      let some = some-in (p .period) (tested (p .engines)) (fitting (progressOf p) Deletion h) in
+      let r = after-in-range Deletion (progressOf p) (c .inRange) h in
+      record {
+        place = omega (arith, some, tested-in-le (p .period) (tested (p .engines)), counted);
+        current = omega (arith, some, c .current);
+        rest = λ e te. record { histories = λ q. rw te (r .histories q); fine = omega arith };
       }

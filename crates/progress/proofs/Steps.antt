@@ -1,20 +1,21 @@
 -- The state after a setup, and after one more event: it represents the year with that event, and what it carries is computed from that year.
-use mathlib.Core.Path.{_≡_, refl, sym, subst}
+use mathlib.Core.Path.{_≡_, refl, sym, ap, subst, _∙_}
 use mathlib.Core.Bool.{Bool, true, false}
 use mathlib.Core.List.{List, [], _∷_}
-use Prim.Native.Nat.{ℕ, _+_}
+use Prim.Native.Nat.{ℕ, _+_, _-_}
 use native.Mathlib.Omega.{arith}
+use lib.ListN.{drop}
 use borrow.Author.Tests.{eq-eqb}
 use Rattle.statistics.specs.Spread.{Test}
 use Rattle.year.specs.declared.Pair.{Pair}
 use Rattle.year.specs.declared.Setup.{Setup}
 use Rattle.year.specs.declared.Event.{Event}
-use Rattle.year.specs.declared.Event.the-variants.{Engine, Amendment, NextPeriod, Declaration}
+use Rattle.year.specs.declared.Event.the-variants.{Engine, Amendment, NextPeriod, Declaration, Deletion}
 use Rattle.year.specs.Setup.{setupInRange}
-use Rattle.year.specs.Replay.{Progress, start, after, testedIn}
+use Rattle.year.specs.Replay.{Tested, Progress, start, after, testedIn, newestIn}
 use Rattle.year.specs.Admissible.{admissible}
 use Rattle.year.specs.Ranges.{InRange}
-use Rattle.year.proofs.Ranges.{start-in-range, after-in-range, none-in-next}
+use Rattle.year.proofs.Ranges.{start-in-range, after-in-range, none-in-next, fitting}
 use Rattle.figures.specs.declared.Running.{Running}
 use Rattle.figures.specs.Running.{running}
 use Rattle.engines.specs.declared.Engines.{Engines}
@@ -54,6 +55,11 @@ changed p standards period declared current =
       co = p .co;
     }
 
+-- without its newest engine a period has one less
+fewer-in : (period : ℕ) (xs : List Tested) → newestIn period xs ≡ true → testedIn period xs - 1 ≡ testedIn period (drop 1 xs)
+fewer-in period [] h = refl
+fewer-in period (x ∷ xs) h = rw h (omega arith)
+
 module _ (p : State) (c : Consistent p) where
   -- a state that shows the year with one more event represents it, if it has the count of its period's engines and the figures at 1,024
   stepped : (e : Event) → admissible (progressOf p) e ≡ true → (s : State) → progressOf s ≡ after e (progressOf p)
@@ -69,6 +75,25 @@ module _ (p : State) (c : Consistent p) where
 
   pub declared : admissible (progressOf p) Declaration ≡ true → Represents (changed p (p .standards) (p .period) true (p .current)) (after Declaration (progressOf p))
   declared a = stepped Declaration a _ refl (c .current) (c .figures)
+
+  -- one engine less: the newest, which was of the current period
+  pub deleted : (e : Engines) (h o : Running) → admissible (progressOf p) Deletion ≡ true → tested e ≡ drop 1 (tested (p .engines)) → Figured 1024 e h o
+      → Represents
+      record {
+        setup = p .setup;
+        standards = p .standards;
+        period = p .period;
+        engines = e;
+        stored = p .stored + 1;
+        declared = p .declared;
+        current = p .current - 1;
+        hcnox = h;
+        co = o;
+      }
+      (after Deletion (progressOf p))
+  deleted e h o a te f =
+      let fewer = fewer-in (p .period) (tested (p .engines)) (fitting (progressOf p) Deletion a) in
+      stepped Deletion a _ (rw te) (rw te (ap (λ n. n - 1) (c .current) ∙ fewer)) f
 
   -- one more engine: it is among the tested, and its results are added to the figures
   pub engine : (number readings : ℕ) (results : Pair) (e : Engines) (h o : Running)

@@ -6,9 +6,11 @@ ghost use Rattle.year.specs.Replay.{start, after};
 ghost use Rattle.year.specs.Admissible.{admissible};
 ghost use Rattle.progress.specs.State.{progressOf, Consistent};
 use crate::Progress;
+use crate::rework::rework;
 use cumsum::RESOLUTION;
 use engines::store::no_engines;
 use engines::store::with_engine;
+use engines::store::without_newest;
 use year::Event;
 use year::Pair;
 use year::Setup;
@@ -56,6 +58,25 @@ fn engine(p: Progress, number: u32, readings: u32, results: Pair) -> Progress
     }
 }
 
+// A deletion ("strike"): the newest engine goes, and the figures are those of the engines that remain.
+fn deletion(p: Progress) -> Progress
+    requires { ⌜ Consistent p × (admissible (progressOf p) Event.Deletion ≡ true) ⌝ }
+    ensures { λ r. ⌜ progressOf r ≡ after Event.Deletion (progressOf p) ⌝ }
+    ensures { λ r. ⌜ Consistent r ⌝ }
+{
+    let engines = p.engines;
+    let mut next = p;
+    next.engines = without_newest(engines);
+    next.stored = p.stored + 1;
+    next.current = p.current - 1;
+    let worked = rework(next, RESOLUTION);
+    let hcnox = worked.hcnox;
+    let co = worked.co;
+    next.hcnox = hcnox;
+    next.co = co;
+    next
+}
+
 // The state with one more event, which must be admissible. `slots::enter_slots` takes the same step in place, its arms in the same order: a change to one must
 // be made to both.
 pub fn after(p: Progress, e: Event) -> Progress
@@ -88,5 +109,6 @@ pub fn after(p: Progress, e: Event) -> Progress
             next.stored = p.stored + 1;
             next
         }
+        Event::Deletion => deletion(p),
     }
 }

@@ -15,6 +15,7 @@ use setup_decoder::setup_in;
 use slots::Scanned;
 use slots::enter_slots;
 use slots::no_journal;
+use versions::is_version;
 
 // Decodes the setup, and enters the events of the slots.
 fn scan_events(journal: &[u8], count: usize) -> Scanned
@@ -28,7 +29,7 @@ fn scan_events(journal: &[u8], count: usize) -> Scanned
     enter_slots(journal, count, start(setup))
 }
 
-// Reads a whole buffer: tests its size, header and unused slots, and then enters its events.
+// Reads a whole buffer: tests its size, header, version and unused slots, and then enters its events.
 pub fn scan_journal(journal: &[u8]) -> Scanned
     ensures { λ r. ⌜ ScannedAs r (readJournal (now (journal .entry))) ⌝ }
 {
@@ -40,7 +41,8 @@ pub fn scan_journal(journal: &[u8]) -> Scanned
         return no_journal();
     }
     let unused = 32 + 8 * count;
-    if !both(is_header(journal), is_zero(&journal[unused..])) {
+    let front = both(is_header(journal), is_version(journal, count));
+    if !both(front, is_zero(&journal[unused..])) {
         return no_journal();
     }
     scan_events(journal, count)

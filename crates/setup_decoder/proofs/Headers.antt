@@ -1,4 +1,5 @@
--- The header of a journal, its first 32 bytes: the code's tests are the definition's, since the setup and the number of events in it encode to the same bytes.
+-- The header of a journal, its first 32 bytes: the code's tests are the definition's, since the version, setup and number of events in it encode to the same
+-- bytes.
 use mathlib.Core.Path.{_≡_}
 use mathlib.Core.Bool.{_&&_, and-true, and-assoc}
 use mathlib.Core.List.{List}
@@ -14,25 +15,24 @@ use Rattle.journal.specs.Acceptance.{isHeader}
 use Rattle.setup_decoder.specs.Parts.{isStart}
 
 module _ (journal : List ℕ) (long : 32 ≤ length journal) where
-  -- the code's tests of the first four bytes, and of the whole header, are the definitions
-  pub start-tests : (eqb (getD journal 0 0) 80 && eqb (getD journal 1 0) 76 && (eqb (getD journal 2 0) 84 && eqb (getD journal 3 0) 1)) ≡ isStart journal
+  -- the code's tests of the first three bytes, and of the whole header, are the definitions
+  pub start-tests : (eqb (getD journal 0 0) 80 && eqb (getD journal 1 0) 76 && eqb (getD journal 2 0) 84) ≡ isStart journal
   start-tests =
       rw (
-        part-elements journal 0 4 (omega arith),
+        part-elements journal 0 3 (omega arith),
         eqb-sym (getD journal 0 0) 80,
         eqb-sym (getD journal 1 0) 76,
         eqb-sym (getD journal 2 0) 84,
-        eqb-sym (getD journal 3 0) 1,
       )
       (simp (and-true, and-assoc))
 
-  pub header-tests : Bytes journal → (isStart journal && isZero (take 4 (drop 4 journal)) && isZero (take 7 (drop 25 journal))) ≡ isHeader journal
+  pub header-tests : Bytes journal → (isStart journal && isZero (take 3 (drop 5 journal)) && isZero (take 7 (drop 25 journal))) ≡ isHeader journal
   unfolding isHeader
   header-tests bytes =
       rw (
         part-elements journal 0 32 long,
-        part-elements journal 0 4 (omega arith),
-        part-elements journal 4 4 (omega arith),
+        part-elements journal 0 3 (omega arith),
+        part-elements journal 5 3 (omega arith),
         part-elements journal 25 7 (omega arith),
       )
       (simp (low journal bytes, high journal bytes, low32 journal bytes, high32 journal bytes, upper32 journal bytes, eqb-refl, and-true, and-assoc))

@@ -1,11 +1,11 @@
 -- The part of a journal's header that the code tests separately.
 use mathlib.Core.Bool.{Bool}
-use mathlib.Core.List.{List, [], _∷_, _++_}
+use mathlib.Core.List.{List}
 use Prim.Native.Nat.{ℕ}
 use lib.ListN.{take}
 use Rattle.buffers.specs.Bytes.{same}
 use Rattle.ascii.specs.Text.{text}
 
--- "PLT" and the low byte of version 1, which are the same for every setup
+-- "PLT", the same for every version and setup
 abbrev pub isStart : List ℕ → Bool
-isStart journal = same (text "PLT" ++ (1 ∷ [])) (take 4 journal)
+isStart journal = same (text "PLT") (take 3 journal)

@@ -38,22 +38,22 @@ pub fn setup_in(journal: &[u8]) -> Setup
     }
 }
 
-// "PLT" and the low byte of version 1.
+// "PLT".
 fn is_start(journal: &[u8]) -> bool
     requires { ⌜ 32 ≤ length (now journal) ⌝ }
     ensures { λ r. ⌜ r ≡ isStart (now (journal .entry)) ⌝ }
 {
     both(
         both(journal[0] == b'P', journal[1] == b'L'),
-        both(journal[2] == b'T', journal[3] == 1),
+        journal[2] == b'T',
     )
 }
 
-// Whether the first 32 bytes encode some setup and number of events: the bytes that are the same for every setup are as they must be.
+// Whether the first 32 bytes encode some version, setup and number of events: the bytes that are the same for all of these are as they must be.
 pub fn is_header(journal: &[u8]) -> bool
     requires { ⌜ 32 ≤ length (now journal) ⌝ }
     ensures { λ r. ⌜ r ≡ isHeader (now (journal .entry)) ⌝ }
 {
-    let front = both(is_start(journal), is_zero(&journal[4..8]));
+    let front = both(is_start(journal), is_zero(&journal[5..8]));
     both(front, is_zero(&journal[25..32]))
 }

@@ -7,6 +7,7 @@ ghost use Rattle.slots.specs.Scanned.{ScannedAs, Entered, entered};
 use admission::is_admissible;
 use conditions::both;
 use cumsum::RESOLUTION;
+use engines::rework::running_at;
 use event_decoder::event_at;
 use event_decoder::is_slot;
 use figures::add;
@@ -88,6 +89,22 @@ pub fn enter_slots(journal: &[u8], count: usize, first: Progress) -> Scanned
                 p.current = 0;
             }
             Event::Declaration => p.declared = true,
+            Event::Deletion => {
+                engines.count -= 1;
+                p.current -= 1;
+                p.hcnox = running_at(
+                    engines.hcnox_results,
+                    engines.hcnox_standards,
+                    engines.count,
+                    RESOLUTION,
+                );
+                p.co = running_at(
+                    engines.co_results,
+                    engines.co_standards,
+                    engines.count,
+                    RESOLUTION,
+                );
+            }
         }
     }
     p.engines = engines;

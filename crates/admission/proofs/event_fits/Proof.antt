@@ -24,6 +24,12 @@ period-fits-requires c κs = search needs
 enum-told-2 : tie.Need-enum-told-2
 enum-told-2 c = search needs
 
+enum-told-3 : tie.Need-enum-told-3
+enum-told-3 c = search needs
+
+deletion-fits-requires : tie.Need-deletion-fits-requires
+deletion-fits-requires c κs = search needs
+
 returns : tie.Need-returns
 returns c = rw (c .before .before .e .given .1) (c .engine-fits .ensures)
 
@@ -36,6 +42,9 @@ returns-3 c = rw (c .before .enum-told .given .1) (c .period-fits .ensures)
 returns-4 : tie.Need-returns-4
 returns-4 c = rw (c .enum-told2 .given .1)
 
+returns-5 : tie.Need-returns-5
+returns-5 c = rw (c .before .enum-told3 .given .1) (c .deletion-fits .ensures)
+
 pub event-fits-spec : {M : Type 1} → statement M
 event-fits-spec =
     tie.close
@@ -47,7 +56,10 @@ event-fits-spec =
     enum-told
     period-fits-requires
     enum-told-2
+    enum-told-3
+    deletion-fits-requires
     returns
     returns-2
     returns-3
-    returns-4)
+    returns-4
+    returns-5)

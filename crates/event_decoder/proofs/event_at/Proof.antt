@@ -40,7 +40,14 @@ returns-3 : tie.Need-returns-3
 returns-3 c = rw (ne-eqb _ _ (c .before .before .if1 .left), ne-eqb _ _ (c .before .if2 .left), eq-eqb _ _ (c .if3 .taken))
 
 returns-4 : tie.Need-returns-4
-returns-4 c = rw (ne-eqb _ _ (c .before .before .if1 .left), ne-eqb _ _ (c .before .if2 .left), ne-eqb _ _ (c .if3 .left))
+returns-4 c =
+    let third = c .before in
+    rw (ne-eqb _ _ (third .before .before .if1 .left), ne-eqb _ _ (third .before .if2 .left), ne-eqb _ _ (third .if3 .left), eq-eqb _ _ (c .if4 .taken))
+
+returns-5 : tie.Need-returns-5
+returns-5 c =
+    let third = c .before in
+    rw (ne-eqb _ _ (third .before .before .if1 .left), ne-eqb _ _ (third .before .if2 .left), ne-eqb _ _ (third .if3 .left), ne-eqb _ _ (c .if4 .left))
 
 pub event-at-spec : {M : Type 1} → statement M
 event-at-spec =
@@ -55,4 +62,5 @@ event-at-spec =
     returns
     returns-2
     returns-3
-    returns-4)
+    returns-4
+    returns-5)

@@ -53,6 +53,9 @@ returns-2 c =
 either-requires : tie.Need-either-requires
 either-requires c κs = search needs
 
+either-requires-2 : tie.Need-either-requires-2
+either-requires-2 c κs = search needs
+
 sub-is-zero-3 : tie.Need-sub-is-zero-3
 sub-is-zero-3 c = search needs
 
@@ -71,10 +74,11 @@ both-requires-2 c κs = search needs
 returns-3 : tie.Need-returns-3
 returns-3 c =
     let s = c .before .before .before in
-    let else = s .before in
+    let first = s .before in
+    let else = first .before in
     let known = else .before .before .before in
     let start = known .before in
-    rw (c .both2 .ensures, c .before .is-zero3 .ensures, s .either .ensures)
+    rw (c .both2 .ensures, c .before .is-zero3 .ensures, s .either2 .ensures, first .either .ensures)
     (other-slot (start .args .part .now) (λ i. known .shared-slice-known .given i .fits) (start .pre) (else .before .if1 .left) (else .if2 .left))
 
 pub is-slot-spec : {M : Type 1} → statement M
@@ -94,6 +98,7 @@ is-slot-spec =
     both-requires
     returns-2
     either-requires
+    either-requires-2
     sub-is-zero-3
     part-is-zero-start-3
     part-is-zero-end-3

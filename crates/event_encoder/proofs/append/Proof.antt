@@ -1,43 +1,15 @@
 -- `append` meets its contract.
-use mathlib.Core.Path.{refl}
-use native.Mathlib.Omega.{arith}
-use Rattle.event_encoder.proofs.Appended.{appended}
+use mathlib.Core.Path.{sym, _∙_}
+use Rattle.event_encoder.proofs.Appended.{first-strike, not-first}
 use borrow.Author.Needs.{needs}
 use Rattle.event_encoder.proofs.append.Statement.{statement}
 use Rattle.event_encoder.proofs.append.Tie as tie
 
-slice-read-count : tie.Need-slice-read-count
-slice-read-count c = search needs
+raises-requires : tie.Need-raises-requires
+raises-requires c κs = search needs
 
-cast-count : tie.Need-cast-count
-cast-count c = search needs
-
-mul-at : tie.Need-mul-at
-mul-at c = search needs
-
-add-at : tie.Need-add-at
-add-at c = search needs
-
-add-write-event : tie.Need-add-write-event
-add-write-event c = search needs
-
-sub-write-event : tie.Need-sub-write-event
-sub-write-event c = search needs
-
-part-write-event-start : tie.Need-part-write-event-start
-part-write-event-start c = search needs
-
-part-write-event-end : tie.Need-part-write-event-end
-part-write-event-end c = search needs
-
-write-event-requires : tie.Need-write-event-requires
-write-event-requires c κs = search needs
-
-add-journal : tie.Need-add-journal
-add-journal c = search needs
-
-cast-journal : tie.Need-cast-journal
-cast-journal c = search needs
+add-slot-requires : tie.Need-add-slot-requires
+add-slot-requires c κs = search needs
 
 slice-write-journal : tie.Need-slice-write-journal
 slice-write-journal c = search needs
@@ -47,25 +19,20 @@ same-length c = search needs
 
 returns : tie.Need-returns
 returns c =
-    let s = c .before .before in
-    let a = s .before .before .before .before .args in
-    rw (s .write-event .ensures) (appended (a .journal .now) (a .e) _ refl (omega arith))
+    let slot = c .before .before .before in
+    let raise = slot .before .before in
+    let a = raise .before .before .before .args in
+    first-strike (a .journal .now) (a .e) _ (slot .add-slot .ensures) (sym (raise .raises .ensures) ∙ c .if1 .taken) (slice-write-journal c)
+
+same-length-2 : tie.Need-same-length-2
+same-length-2 c = search needs
+
+returns-2 : tie.Need-returns-2
+returns-2 c =
+    let slot = c .before .before .before in
+    let raise = slot .before .before in
+    let a = raise .before .before .before .args in
+    slot .add-slot .ensures ∙ not-first (a .journal .now) (a .e) (sym (raise .raises .ensures) ∙ c .if1 .left)
 
 pub append-spec : {M : Type 1} → statement M
-append-spec =
-    tie.close
-    (tie.spec
-    slice-read-count
-    cast-count
-    mul-at
-    add-at
-    add-write-event
-    sub-write-event
-    part-write-event-start
-    part-write-event-end
-    write-event-requires
-    add-journal
-    cast-journal
-    slice-write-journal
-    same-length
-    returns)
+append-spec = tie.close (tie.spec raises-requires add-slot-requires slice-write-journal same-length returns same-length-2 returns-2)

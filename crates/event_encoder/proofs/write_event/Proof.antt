@@ -34,6 +34,12 @@ enum-told-2 c = search needs
 write-slot-requires-4 : tie.Need-write-slot-requires-4
 write-slot-requires-4 c κs = search needs
 
+enum-told-3 : tie.Need-enum-told-3
+enum-told-3 c = search needs
+
+write-slot-requires-5 : tie.Need-write-slot-requires-5
+write-slot-requires-5 c κs = search needs
+
 same-length : tie.Need-same-length
 same-length c = search needs
 
@@ -58,6 +64,12 @@ same-length-4 c = search needs
 returns-4 : tie.Need-returns-4
 returns-4 c = let s = c .before .before in rw (s .write-slot4 .ensures, s .before .before .enum-told2 .given .1)
 
+same-length-5 : tie.Need-same-length-5
+same-length-5 c = search needs
+
+returns-5 : tie.Need-returns-5
+returns-5 c = let s = c .before .before in rw (s .write-slot5 .ensures, s .before .before .enum-told3 .given .1)
+
 pub write-event-spec : {M : Type 1} → statement M
 write-event-spec =
     tie.close
@@ -70,6 +82,8 @@ write-event-spec =
     write-slot-requires-3
     enum-told-2
     write-slot-requires-4
+    enum-told-3
+    write-slot-requires-5
     same-length
     returns
     same-length-2
@@ -77,4 +91,6 @@ write-event-spec =
     same-length-3
     returns-3
     same-length-4
-    returns-4)
+    returns-4
+    same-length-5
+    returns-5)

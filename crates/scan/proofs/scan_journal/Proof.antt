@@ -1,5 +1,6 @@
 -- `scan_journal` meets its contract: a test that fails shows a part that no accepted journal has; if none fails, the events decide.
-use mathlib.Core.Path.{sym, subst, _∙_}
+use mathlib.Core.Path.{_≡_, sym, ap, subst, _∙_}
+use mathlib.Core.Bool.{_&&_}
 use native.Mathlib.Omega.{arith}
 use borrow.Author.Tests.{not-true}
 use Rattle.conditions.proofs.Tests.{not-false}
@@ -36,6 +37,12 @@ add-unused c = search needs
 is-header-requires : tie.Need-is-header-requires
 is-header-requires c κs = search needs
 
+is-version-requires : tie.Need-is-version-requires
+is-version-requires c κs = search needs
+
+both-requires : tie.Need-both-requires
+both-requires c κs = search needs
+
 sub-is-zero : tie.Need-sub-is-zero
 sub-is-zero c = search needs
 
@@ -48,19 +55,35 @@ part-is-zero-end c = search needs
 is-zero-requires : tie.Need-is-zero-requires
 is-zero-requires c κs = search needs
 
-both-requires : tie.Need-both-requires
-both-requires c κs = search needs
+both-requires-2 : tie.Need-both-requires-2
+both-requires-2 c κs = search needs
 
 no-journal-requires-3 : tie.Need-no-journal-requires-3
 no-journal-requires-3 c κs = search needs
 
+-- what the tests of the bytes found
+module _ (b : tie.After-both2) where
+  abbrev zero : tie.After-is-zero
+  zero = b .before
+
+  abbrev front : tie.After-both
+  front = zero .before .before
+
+  abbrev version : tie.After-is-version
+  version = front .before
+
+  abbrev header : tie.After-is-header
+  header = version .before
+
+  tests : (b .both2 .result ≡ (header .is-header .result && version .is-version .result && zero .is-zero .result))
+  tests = b .both2 .ensures ∙ ap (λ x. x && zero .is-zero .result) (front .both .ensures)
+
 returns-3 : tie.Need-returns-3
 returns-3 c =
     let b = c .before .before in
-    let z = b .before in
-    let h = z .before .before in
     subst (ScannedAs (c .no-journal3 .result))
-    (sym (other-bytes _ (h .is-header .result) (z .is-zero .result) (h .is-header .ensures) (z .is-zero .ensures) (sym (b .both .ensures) ∙ not-true _ (c .before .if3 .taken))))
+    (sym (other-bytes _ (header b .is-header .result) (version b .is-version .result) (zero b .is-zero .result) (header b .is-header .ensures)
+    (version b .is-version .ensures) (zero b .is-zero .ensures) (sym (tests b) ∙ not-true _ (c .before .if3 .taken))))
     (c .no-journal3 .ensures)
 
 scan-events-requires : tie.Need-scan-events-requires
@@ -69,12 +92,11 @@ scan-events-requires c κs = search needs
 returns-4 : tie.Need-returns-4
 returns-4 c =
     let b = c .before .before in
-    let z = b .before in
-    let h = z .before .before in
-    let k = h .before in
+    let k = header b .before in
     subst (ScannedAs (c .scan-events .result))
-    (by-events _ (h .is-header .result) (z .is-zero .result) (h .is-header .ensures) (z .is-zero .ensures) (k .before .before .if1 .left) (k .if2 .left)
-    (sym (b .both .ensures) ∙ not-false _ (c .before .if3 .left)))
+    (by-events _ (header b .is-header .result) (version b .is-version .result) (zero b .is-zero .result) (header b .is-header .ensures)
+    (version b .is-version .ensures) (zero b .is-zero .ensures) (k .before .before .if1 .left) (k .if2 .left)
+    (sym (tests b) ∙ not-false _ (c .before .if3 .left)))
     (c .scan-events .ensures)
 
 pub scan-journal-spec : {M : Type 1} → statement M
@@ -90,11 +112,13 @@ scan-journal-spec =
     mul-unused
     add-unused
     is-header-requires
+    is-version-requires
+    both-requires
     sub-is-zero
     part-is-zero-start
     part-is-zero-end
     is-zero-requires
-    both-requires
+    both-requires-2
     no-journal-requires-3
     returns-3
     scan-events-requires

@@ -16,21 +16,14 @@ both-requires c κs = search needs
 shared-slice-read-both-3 : tie.Need-shared-slice-read-both-3
 shared-slice-read-both-3 c = search needs
 
-shared-slice-read-both-4 : tie.Need-shared-slice-read-both-4
-shared-slice-read-both-4 c = search needs
-
 both-requires-2 : tie.Need-both-requires-2
 both-requires-2 c κs = search needs
 
-both-requires-3 : tie.Need-both-requires-3
-both-requires-3 c κs = search needs
-
 returns : tie.Need-returns
 returns c =
-    let s = c .before in
-    let r = s .before .before .before in
+    let r = c .before .before in
     let start = r .before .before .before .before in
-    rw (c .both3 .ensures, s .both2 .ensures, r .both .ensures) (start-tests (start .args .journal .now) (start .pre))
+    rw (c .both2 .ensures, r .both .ensures) (start-tests (start .args .journal .now) (start .pre))
 
 pub is-start-spec : {M : Type 1} → statement M
 is-start-spec =
@@ -40,7 +33,5 @@ is-start-spec =
     shared-slice-read-both-2
     both-requires
     shared-slice-read-both-3
-    shared-slice-read-both-4
     both-requires-2
-    both-requires-3
     returns)

@@ -31,6 +31,12 @@ enum-told-2 c = search needs
 add-next-4 : tie.Need-add-next-4
 add-next-4 c = search needs
 
+enum-told-3 : tie.Need-enum-told-3
+enum-told-3 c = search needs
+
+deletion-requires : tie.Need-deletion-requires
+deletion-requires c κs = let s = c .before .before in (s .pre .0, rw (c .enum-told3 .given .1) at (s .pre .1))
+
 returns : tie.Need-returns
 returns c = rw (c .before .before .e .given .1) (c .engine .ensures)
 
@@ -52,6 +58,9 @@ returns-4 c =
     let e = c .before .enum-told2 .given .1 in
     rw e (declared (s .args .p) (s .pre .0) (rw e at (s .pre .1)))
 
+returns-5 : tie.Need-returns-5
+returns-5 c = rw (c .before .enum-told3 .given .1) (c .deletion .ensures)
+
 pub after-spec : {M : Type 1} → statement M
 after-spec =
     tie.close
@@ -65,7 +74,10 @@ after-spec =
     add-next-3
     enum-told-2
     add-next-4
+    enum-told-3
+    deletion-requires
     returns
     returns-2
     returns-3
-    returns-4)
+    returns-4
+    returns-5)
