@@ -1,10 +1,10 @@
 -- The decision on a change, on the year that a scan found.
 use mathlib.Core.Path.{_≡_}
-use mathlib.Core.Bool.{_||_}
+use mathlib.Core.Bool.{not, _||_}
 use mathlib.Core.List.{List}
 use Prim.Native.Nat.{ℕ}
 use Rattle.conditions.specs.Rows.{first}
-use Rattle.year.specs.Replay.{short}
+use Rattle.year.specs.Replay.{short, newestIn}
 use Rattle.year.specs.Admissible.{lastPeriod}
 use Rattle.progress.specs.State.{progressOf}
 use Rattle.journal.specs.Read.{readJournal}
@@ -26,4 +26,4 @@ module _ (change : Change) (journal : List ℕ) (scanned : Scanned) (t : Scanned
   unfolding refusals
   change-decided none =
       let year = scanned-test scanned (readJournal journal) t (entry-held (EnterChange change) journal none) in
-      rw (← year (λ x. lastPeriod x || short x)) (own-decides (EnterChange change) journal none)
+      rw (← year (λ x. not (newestIn (x .period) (x .tested))), ← year (λ x. lastPeriod x || short x)) (own-decides (EnterChange change) journal none)

@@ -8,6 +8,7 @@ ghost use Rattle.reference.specs.Call.{EnterChange, changeEvent, ofAmendment};
 ghost use Rattle.slots.specs.Scanned.{ScannedAs};
 ghost use Rattle.refusals.specs.Decisions.{decisionOn};
 ghost use Rattle.change_decision.specs.Changes.{changeRefusal};
+use admission::deletion_fits;
 use admission::period_fits;
 use conditions::row;
 use progress::Progress;
@@ -27,10 +28,11 @@ fn is_unfit(c: Change) -> bool
         Change::Amend(standards) => !standards_in_range(standards),
         Change::BeginPeriod => false,
         Change::Declare => false,
+        Change::Delete => false,
     }
 }
 
-// Refusal 15, for a change on an accepted year.
+// Refusals 17 and 15, for a change on an accepted year.
 fn change_refusal(p: Progress, c: Change) -> u8
     requires { ⌜ Consistent p ⌝ }
     ensures { λ r. ⌜ r ≡ changeRefusal c (progressOf p) ⌝ }
@@ -39,6 +41,7 @@ fn change_refusal(p: Progress, c: Change) -> u8
         Change::Amend(_) => 0,
         Change::BeginPeriod => row(!period_fits(p), 15, 0),
         Change::Declare => 0,
+        Change::Delete => row(!deletion_fits(p), 17, 0),
     }
 }
 
@@ -50,6 +53,7 @@ fn change_event(c: Change) -> Event
         Change::Amend(standards) => Event::Amendment(standards),
         Change::BeginPeriod => Event::NextPeriod,
         Change::Declare => Event::Declaration,
+        Change::Delete => Event::Deletion,
     }
 }
 

@@ -9,7 +9,7 @@ use Rattle.year.specs.declared.Status.{Status}
 use Rattle.year.specs.Setup.{setupInRange}
 use Rattle.year.specs.Replay.{Progress, start}
 use Rattle.year.specs.Status.{status}
-use Rattle.journal.specs.Encode.{encode}
+use Rattle.journal.specs.Encode.{setupVersion, encode}
 use Rattle.journal.specs.Read.{readJournal}
 use Rattle.setup_encoder.specs.Fits.{SetupFits}
 use Rattle.setup_encoder.proofs.Fits.{setup-fits}
@@ -29,7 +29,7 @@ module _ (s : Setup) (journal : List ℕ) (h : refusalOn (SetUp s) journal ≡ 0
   pub setup-writable : (length journal ≡ 544) × SetupFits s
   setup-writable = (accepted-size (SetUp s) journal h, setup-fits s setup-ready)
 
-  pub setup-done : (x : Status) (left : List ℕ) (p : Progress) → x ≡ status 1024 p → p ≡ start s → left ≡ encode s []
+  pub setup-done : (x : Status) (left : List ℕ) (p : Progress) → x ≡ status 1024 p → p ≡ start s → left ≡ encode setupVersion s []
       → Promised (SetUp s) journal (Accepted x) left
   setup-done x left p a b e =
       promised (SetUp s) journal (Accepted x) left

@@ -35,7 +35,7 @@ pub fn set_up(journal: &mut [u8], s: Setup) -> Answer
     Answer::Accepted(status_of(start(s)))
 }
 
-// Carries out the decision on an entry: an added event is written into its slot, and the answer is the status of the year with it.
+// Carries out the decision on an entry: an added event is appended to the journal, and the answer is the status of the year with it.
 fn enter(journal: &mut [u8], p: Progress, decision: Decision) -> Answer
     requires { ⌜ Enterable (now journal) p decision ⌝ }
     ensures { λ r. ⌜ r ≡ answerTo decision (progressOf p) ⌝ }
@@ -61,7 +61,7 @@ pub fn enter_engine(journal: &mut [u8], number: u32, hcnox: &[u32], co: &[u32]) 
     enter(journal, scanned.progress, decision)
 }
 
-// A change, which has no readings: an amendment, the next period, a declaration.
+// A change, which has no readings: an amendment, the next period, a declaration, a deletion ("strike").
 pub fn enter_change(journal: &mut [u8], c: Change) -> Answer
     ensures { λ r. ⌜ r ≡ answer (Enter (EnterChange c)) (now (journal .entry)) ⌝ }
     ensures { λ r. ⌜ outcomeOf r ≡ outcome (Enter (EnterChange c)) (now (journal .entry)) ⌝ }

@@ -56,7 +56,7 @@ reply-long line journal = command-long (commandOf line) journal
 
 -- the largest number of the table
 abbrev largest : ℕ
-largest = 16
+largest = 17
 
 -- if every number of a table is at most `most`, so is the number that is taken
 abbrev UpTo : ℕ → List Row → Type 0

@@ -8,6 +8,7 @@ use Rattle.cumsum.specs.Marks.{compared, failed, undecided}
 use Rattle.year.specs.Periods.{periods, needs}
 use Rattle.year.specs.Verdict.{verdict}
 use Rattle.year.specs.Admissible.{closed, admissible}
+use Rattle.journal.specs.Encode.{canHold, append}
 use Rattle.journal.specs.Read.{readAs}
 use Rattle.reference.specs.Refusals.{refusals, refusal}
 use Rattle.reference.specs.Answers.{answer, outcome, journalAfter}
@@ -19,7 +20,7 @@ use Rattle.exports.specs.Exports.{replyCount, replyLeft, lineLeft, refus
 use Rattle.exports.specs.Cases.{Cases}
 
 pub cases : Cases
-unfolding put nearestEven variation t95 sizeReached compared failed undecided periods needs verdict closed admissible readAs refusals refusal answer outcome journalAfter decimalUpTo decimal callOf commandOf numbersFrom replyTo journalAfterLine pollutantNumbers statusNumbers replyCount replyLeft lineLeft refusalGiven figuresLeft journalLeft
+unfolding put nearestEven variation t95 sizeReached compared failed undecided periods needs verdict closed admissible canHold append readAs refusals refusal answer outcome journalAfter decimalUpTo decimal callOf commandOf numbersFrom replyTo journalAfterLine pollutantNumbers statusNumbers replyCount replyLeft lineLeft refusalGiven figuresLeft journalLeft
 cases =
     record {
       secondNumbers = refl;

@@ -53,13 +53,13 @@ pub record Cases : Type 0 where
   pub replyAtFront : replyLeft (text "X") [] (zeros 96) ≡ text "NO 3" ++ zeros 92
   pub replyKept : replyLeft (text "X") [] (zeros 95) ≡ zeros 95
   -- a declaration keyed with 96 bytes for its reply, and with 95, where nothing is done
-  pub lineDone : lineLeft (text "X") (encode (setupOf 5000 800) []) (zeros 96) ≡ encode (setupOf 5000 800) (Declaration ∷ [])
-  pub lineNotDone : lineLeft (text "X") (encode (setupOf 5000 800) []) (zeros 95) ≡ encode (setupOf 5000 800) []
+  pub lineDone : lineLeft (text "X") (encode 1 (setupOf 5000 800) []) (zeros 96) ≡ encode 1 (setupOf 5000 800) (Declaration ∷ [])
+  pub lineNotDone : lineLeft (text "X") (encode 1 (setupOf 5000 800) []) (zeros 95) ≡ encode 1 (setupOf 5000 800) []
   -- room for twenty figures, and for nineteen
   pub given : refusalGiven (Ask ReadStatus) [] (zeros 20) ≡ 3
   pub fewFigures : refusalGiven (Ask ReadStatus) [] (zeros 19) ≡ 255
   pub figuresAtFront : figuresLeft (Ask ReadStatus) [] (replicate 20 7) ≡ statusNumbers noStatus
   pub figuresKept : figuresLeft (Ask ReadStatus) [] (replicate 19 7) ≡ replicate 19 7
   -- an accepted engine is in the journal; with room for nineteen figures nothing is done
-  pub entered : journalLeft engineOne (encode (setupOf 5000 800) []) (zeros 20) ≡ encode (setupOf 5000 800) (engine 1 998 ∷ [])
-  pub notEntered : journalLeft engineOne (encode (setupOf 5000 800) []) (zeros 19) ≡ encode (setupOf 5000 800) []
+  pub entered : journalLeft engineOne (encode 1 (setupOf 5000 800) []) (zeros 20) ≡ encode 1 (setupOf 5000 800) (engine 1 998 ∷ [])
+  pub notEntered : journalLeft engineOne (encode 1 (setupOf 5000 800) []) (zeros 19) ≡ encode 1 (setupOf 5000 800) []

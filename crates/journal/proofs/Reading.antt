@@ -85,7 +85,7 @@ valid-setup s (e ∷ es) v = valid-setup s es (valid-before s e es v)
 -- ---- the journal
 
 module _ (v : ℕ) (s : Setup) (es : List Event) (c : canHold v s es ≡ true) (a : valid s es ≡ true) where
-  read-as : readAs (encode v s es) v s es ≡ Year s es
+  pub read-as : readAs (encode v s es) v s es ≡ Year s es
   unfolding readAs
   read-as = rw (same-refl (encode v s es), a, c)
 

@@ -34,8 +34,9 @@ module _ (vs : List ℕ) where
   no-pairs ne = record { command = rw (ne-eqb (length vs % 2) 1 ne); enough = tt }
 
   -- no other letter makes a call
-  pub other-letter : (letter : ℕ) → (letter ≡ 83 → ⊥) → (letter ≡ 69 → ⊥) → (letter ≡ 65 → ⊥) → (letter ≡ 80 → ⊥) → (letter ≡ 88 → ⊥) → (letter ≡ 76 → ⊥)
-      → Requests (requests.Refuse 2) vs (callOf letter vs)
+  pub other-letter : (letter : ℕ) → (letter ≡ 83 → ⊥) → (letter ≡ 69 → ⊥) → (letter ≡ 65 → ⊥) → (letter ≡ 80 → ⊥) → (letter ≡ 88 → ⊥) → (letter ≡ 90 → ⊥)
+      → (letter ≡ 76 → ⊥) → Requests (requests.Refuse 2) vs (callOf letter vs)
   unfolding callOf
-  other-letter letter s e a p x l =
-      rw (ne-eqb letter 83 s, ne-eqb letter 69 e, ne-eqb letter 65 a, ne-eqb letter 80 p, ne-eqb letter 88 x, ne-eqb letter 76 l) (record { command = refl; enough = tt })
+  other-letter letter s e a p x z l =
+      rw (ne-eqb letter 83 s, ne-eqb letter 69 e, ne-eqb letter 65 a, ne-eqb letter 80 p, ne-eqb letter 88 x, ne-eqb letter 90 z, ne-eqb letter 76 l)
+      (record { command = refl; enough = tt })

@@ -118,6 +118,10 @@ pub fn requested(letter: u8, values: &[u32]) -> Request
         let declaration = CallRequest::Enter(EntryRequest::Change(Change::Declare));
         return bare_request(declaration, values);
     }
+    if letter == b'Z' {
+        let deletion = CallRequest::Enter(EntryRequest::Change(Change::Delete));
+        return bare_request(deletion, values);
+    }
     if letter == b'L' {
         return bare_request(CallRequest::WriteMarks, values);
     }

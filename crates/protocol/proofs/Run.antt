@@ -26,7 +26,7 @@ use Rattle.year.specs.Verdict.{verdict}
 use Rattle.year.specs.Admissible.{closed, admissible, valid}
 use Rattle.year.proofs.Valid.{valid-before}
 use Rattle.year.specs.Cases.{setupOf, engine}
-use Rattle.journal.specs.Encode.{encode}
+use Rattle.journal.specs.Encode.{canHold, encode, append}
 use Rattle.journal.specs.Read.{readAs, readJournal}
 use Rattle.journal.proofs.Reading.{read-as}
 use Rattle.reference.specs.Call.{EnterEngine, EnterChange, Entry}
@@ -60,7 +60,7 @@ declared = Declaration ∷ three
 
 -- the journal that holds such events
 abbrev holding : List Event → List ℕ
-holding es = encode plant es
+holding es = encode 1 plant es
 
 -- an engine with one reading for each pollutant
 abbrev entering : ℕ → ℕ → ℕ → Entry
@@ -82,24 +82,29 @@ valid-two : valid plant two ≡ true
 valid-two = valid-before plant (engine 3 900) two valid-three
 
 -- so each journal is read as its year
-stored : (es : List Event) → length (holding es) ≡ 544 → readJournal (holding es) ≡ readAs (holding es) plant es → valid plant es ≡ true
-    → Stored (holding es) plant es
-stored es size same v = record { size = size; isYear = same ∙ read-as plant es v }
+stored : (es : List Event) → length (holding es) ≡ 544 → readJournal (holding es) ≡ readAs (holding es) 1 plant es → canHold 1 plant es ≡ true
+    → valid plant es ≡ true → Stored (holding es) plant es
+stored es size same c v = record { size = size; isYear = same ∙ read-as 1 plant es c v }
 
 stored-none : Stored (holding []) plant []
-stored-none = stored [] refl refl refl
+unfolding canHold
+stored-none = stored [] refl refl refl refl
 
 stored-one : Stored (holding one) plant one
-stored-one = stored one refl refl (valid-before plant (engine 2 1071) one valid-two)
+unfolding canHold
+stored-one = stored one refl refl refl (valid-before plant (engine 2 1071) one valid-two)
 
 stored-two : Stored (holding two) plant two
-stored-two = stored two refl refl valid-two
+unfolding canHold
+stored-two = stored two refl refl refl valid-two
 
 stored-three : Stored (holding three) plant three
-stored-three = stored three refl refl valid-three
+unfolding canHold
+stored-three = stored three refl refl refl valid-three
 
 stored-declared : Stored (holding declared) plant declared
-stored-declared = stored declared refl refl valid-declared
+unfolding canHold
+stored-declared = stored declared refl refl refl valid-declared
 
 -- the reply that shows n, a verdict, marks and sample sizes
 abbrev shown : ℕ → ℕ → Mark → Mark → SampleSize → SampleSize → List ℕ
@@ -116,10 +121,10 @@ record Lines : Type 0 where
   pub line7 : Does (text "E 4 1 1") (holding declared) (refusalReply 8) (holding declared)
 
 lines : Lines
-unfolding put nearestEven variation t95 sampleSize roundedUp sizeReached compared failed undecided periods needs verdict closed admissible refusals refusal digits spelt isNumber numberAt spacedNumber numbersFrom callOf commandOf
+unfolding put nearestEven variation t95 sampleSize roundedUp sizeReached compared failed undecided periods needs verdict closed admissible append refusals refusal digits spelt isNumber numberAt spacedNumber numbersFrom callOf commandOf
 lines =
     record {
-      line1 = unfold readAs journalAfter answer replyTo journalAfterLine in record { replied = refl; left = refl };
+      line1 = unfold canHold readAs journalAfter answer replyTo journalAfterLine in record { replied = refl; left = refl };
       line2 = entry-does (holding []) (text "E 1 998000 5000000") plant [] stored-none (entering 1 998000 5000000) (holding one) refl refl refl stored-one;
       line3 = simp (statistics.cases .deviationAt1024, deviation-none) at (entry-does (holding one) (text "E 2 1071000 5000000") plant one stored-one
           (entering 2 1071000 5000000) (holding two) refl refl refl stored-two);

@@ -1,11 +1,12 @@
 -- Lines on a zeroed journal behave as the reference model does.
-use mathlib.Core.Path.{_≡_, refl, _∙_}
+use mathlib.Core.Path.{_≡_, refl, ap, _∙_}
 use mathlib.Core.Bool.{Bool, true, false, cond}
 use mathlib.Core.List.{List, [], _∷_}
 use Prim.Native.Nat.{ℕ}
 use lib.Dec.{eqb}
 use Rattle.conditions.proofs.Tests.{cond-same}
 use Rattle.year.specs.Model.{Model}
+use Rattle.journal.specs.Encode.{encode, versionIn}
 use Rattle.journal.proofs.OneJournal.{demand}
 use Rattle.reference.specs.declared.Answer.the-variants.{Accepted, Refused}
 use Rattle.reference.specs.Call.{Query, ReadStatus, Write, Call, SetUp, Enter, Ask}
@@ -82,5 +83,7 @@ session lines =
       sameCalls = same;
       readsBack = rw same held;
       untouched = λ e. same ∙ untouched calls e;
-      stored = λ s es e. same ∙ demand .accepted (journalOf calls) s es (held .reads ∙ e) .stored;
+      stored = λ s es e.
+          let j = demand .accepted (journalOf calls) s es (held .reads ∙ e) in
+          same ∙ j .stored ∙ ap (λ v. encode v s es) (demand .version (versionIn (journalOf calls)) s es .0 (j .holds));
     }

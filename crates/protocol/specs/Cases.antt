@@ -10,7 +10,7 @@ use Rattle.cumsum.specs.declared.Mark.the-variants.{Under, Undecided}
 use Rattle.year.specs.declared.Figures.{Figures}
 use Rattle.year.specs.Cases.{pair, setupOf}
 use Rattle.reference.specs.Call.{EnterEngine, EnterChange, Marks, Write, SetUp, Enter, Ask}
-use Rattle.reference.specs.declared.Change.the-variants.{Amend, BeginPeriod, Declare}
+use Rattle.reference.specs.declared.Change.the-variants.{Amend, BeginPeriod, Declare, Delete}
 use Rattle.protocol.specs.Number.{numberOutcome}
 use Rattle.protocol.specs.KeyLine.{spacedOutcome, Make, Refuse, commandOf}
 use Rattle.protocol.specs.Reply.{refusalReply, marksReply, statusReply}
@@ -36,6 +36,7 @@ pub record Cases : Type 0 where
   pub amendment : commandOf (text "A 800 6100") ≡ Make (Enter (EnterChange (Amend (pair 800 6100))))
   pub period : commandOf (text "P") ≡ Make (Enter (EnterChange BeginPeriod))
   pub declaration : commandOf (text "X") ≡ Make (Enter (EnterChange Declare))
+  pub deletion : commandOf (text "Z") ≡ Make (Enter (EnterChange Delete))
   pub marks : commandOf (text "L") ≡ Make (Ask (Write Marks 80))
   -- each number of a setup in its place
   pub setupNumbers : commandOf (text "S 1 2 3 4 5 6 7 8")
@@ -81,10 +82,12 @@ pub record Cases : Type 0 where
   pub threeStandards : commandOf (text "A 800 6100 1") ≡ Refuse 2
   pub numberAfterDeclaration : commandOf (text "X 1") ≡ Refuse 2
   pub numberAfterMarks : commandOf (text "L 1") ≡ Refuse 2
+  pub numberAfterDeletion : commandOf (text "Z 1") ≡ Refuse 2
   pub numberAfterPeriod : commandOf (text "P 1") ≡ Refuse 2
   pub otherLetter : commandOf (text "T 1") ≡ Refuse 2
   pub letterAlone : commandOf (text "T") ≡ Refuse 2
   pub smallLetter : commandOf (text "p") ≡ Refuse 2
+  pub smallDeletion : commandOf (text "z") ≡ Refuse 2
   pub emptyLine : commandOf [] ≡ Refuse 2
   -- 64 bytes are read, 65 are not
   pub bytes64 : commandOf (text "E 1 11111111 11111111 11111111 11111111 11111111 11111111 2222 3")
@@ -104,3 +107,6 @@ pub record Cases : Type 0 where
   -- document 01, "Input and print of a whole run"
   pub documentRun : run (text "S 5000 365 800 6100 0 0 0 0\nE 1 998000 5000000\nE 2 1071000 5000000\nE 3 900000 5000000\nL\nX\nE 4 1 1\n")
       ≡ text "OK 0 0 -- - -\nOK 1 0 -- - -\nOK 2 1 ?U 30 10\nOK 3 1 UU 28 10\nOK --?UUU\nOK 3 7 UU 28 10\nNO 8\n"
+  -- document 02, W-201: a strike with no engine, an engine, its strike, no marks, the same engine again
+  pub struckRun : run (text "S 5000 365 800 6100 0 0 0 0\nZ\nE 1 998000 5000000\nZ\nL\nE 1 998000 5000000\n")
+      ≡ text "OK 0 0 -- - -\nNO 17\nOK 1 0 -- - -\nOK 0 0 -- - -\nOK\nOK 1 0 -- - -\n"

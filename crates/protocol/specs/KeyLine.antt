@@ -9,7 +9,7 @@ use Rattle.ascii.specs.Text.{byte}
 use Rattle.year.specs.declared.Setup.{Setup}
 use Rattle.reference.specs.Call.{Entry, EnterEngine, EnterChange, Marks, Write, Call, SetUp, Enter, Ask}
 use Rattle.reference.specs.declared.Change.{Change}
-use Rattle.reference.specs.declared.Change.the-variants.{Amend, BeginPeriod, Declare}
+use Rattle.reference.specs.declared.Change.the-variants.{Amend, BeginPeriod, Declare, Delete}
 use Rattle.protocol.specs.declared.Number.{Number}
 use Rattle.protocol.specs.declared.Number.the-variants.{Value, Nothing}
 use Rattle.protocol.specs.Number.{numberAt, NumberOutcome, numberOutcome}
@@ -73,7 +73,8 @@ changeOf count vs change = ofCount count vs (Enter (EnterChange change))
 abbrev pub ofPairs : List ℕ → Call → Option Call
 ofPairs vs call = cond (eqb (length vs % 2) 1) (some call) none
 
--- the call of a letter and its numbers. "P next period, X declaration, L strip: no numbers". L lends an output with room for forty engines
+-- the call of a letter and its numbers. "P next period, X declaration, L strip: no numbers"; "a key Z, with no numbers" (document 02, W-201). L lends an output
+-- with room for forty engines
 unfoldable pub callOf : ℕ → List ℕ → Option Call
 callOf letter vs =
     cond (eqb letter (byte "S")) (ofCount 8 vs (SetUp (setupFrom vs)))
@@ -81,7 +82,8 @@ callOf letter vs =
     (cond (eqb letter (byte "A")) (changeOf 2 vs (amendmentFrom vs))
     (cond (eqb letter (byte "P")) (changeOf 0 vs BeginPeriod)
     (cond (eqb letter (byte "X")) (changeOf 0 vs Declare)
-    (cond (eqb letter (byte "L")) (ofCount 0 vs (Ask (Write Marks 80))) none)))))
+    (cond (eqb letter (byte "Z")) (changeOf 0 vs Delete)
+    (cond (eqb letter (byte "L")) (ofCount 0 vs (Ask (Write Marks 80))) none))))))
 
 -- what a line asks for: a call, or a refusal by 1 or 2
 pub data Command : Type 0 where

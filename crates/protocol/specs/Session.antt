@@ -8,7 +8,7 @@ use Rattle.buffers.specs.Bytes.{zeros}
 use Rattle.year.specs.declared.Setup.{Setup}
 use Rattle.year.specs.declared.Event.{Event}
 use Rattle.year.specs.Model.{Model, NoSetup, Year}
-use Rattle.journal.specs.Encode.{encode}
+use Rattle.journal.specs.Encode.{version, encode}
 use Rattle.reference.specs.Call.{Query, ReadStatus, Write, Call, SetUp, Enter, Ask}
 use Rattle.reference.specs.Refusals.{refusal}
 use Rattle.reference.specs.Answers.{statusOf, outBytes}
@@ -60,6 +60,6 @@ module _ (lines : List (List ℕ)) where
     -- the journal is the one that the lines' calls leave, and it is read as the model
     pub sameCalls : journalAfterLines (zeros 544) lines ≡ journalOf calls
     pub readsBack : Holds (journalAfterLines (zeros 544) lines) (modelOf calls)
-    -- so every byte of it is the model's: zeros as long as no setup was accepted, and then its stored form
+    -- so every byte of it is the model's: zeros as long as no setup was accepted, and then its stored form, in version 2 if there is a strike and else in 1
     pub untouched : modelOf calls ≡ NoSetup → journalAfterLines (zeros 544) lines ≡ zeros 544
-    pub stored : (s : Setup) (es : List Event) → modelOf calls ≡ Year s es → journalAfterLines (zeros 544) lines ≡ encode s es
+    pub stored : (s : Setup) (es : List Event) → modelOf calls ≡ Year s es → journalAfterLines (zeros 544) lines ≡ encode (version es) s es

@@ -45,7 +45,7 @@ module _ (size : ℕ) (journal : List ℕ) where
       rw (← year (λ x. ltb size (2 * length (x .tested))))
       (sym (first-passed (statusRows journal) (first (from 16 table) 0) (status-numbered journal) none))
 
--- ---- an entry: the rows shared by all entries, before 10, and then its own, from 10 on
+-- ---- an entry: the rows shared by all entries, up to 9, and then its own, from 17 on
 
 -- the test of row 5
 abbrev pub unfitStandards : Entry → Bool
@@ -57,7 +57,7 @@ module _ (entry : Entry) (journal : List ℕ) where
 
   -- the number that its own rows give
   abbrev pub own : ℕ
-  own = first (from 10 (refusalsOn (Enter entry) journal)) 0
+  own = first (from 17 (refusalsOn (Enter entry) journal)) 0
 
   pub entry-parts : refusalOn (Enter entry) journal ≡ first shared own
   unfolding refusal refusals

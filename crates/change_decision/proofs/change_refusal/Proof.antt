@@ -22,8 +22,17 @@ row-requires c κs = search needs
 enum-told-3 : tie.Need-enum-told-3
 enum-told-3 c = search needs
 
+enum-told-4 : tie.Need-enum-told-4
+enum-told-4 c = search needs
+
+deletion-fits-requires : tie.Need-deletion-fits-requires
+deletion-fits-requires c κs = search needs
+
+row-requires-2 : tie.Need-row-requires-2
+row-requires-2 c κs = search needs
+
 returns : tie.Need-returns
-returns c = search needs
+returns c = rw (c .enum-told .given .1)
 
 returns-2 : tie.Need-returns-2
 returns-2 c =
@@ -31,7 +40,10 @@ returns-2 c =
     rw (c .before .before .enum-told2 .given .1, c .row .ensures, c .before .period-fits .ensures, Bool·not-not (lastPeriod p || short p))
 
 returns-3 : tie.Need-returns-3
-returns-3 c = search needs
+returns-3 c = rw (c .enum-told3 .given .1)
+
+returns-4 : tie.Need-returns-4
+returns-4 c = rw (c .before .before .enum-told4 .given .1, c .row2 .ensures, c .before .deletion-fits .ensures)
 
 pub change-refusal-spec : {M : Type 1} → statement M
 change-refusal-spec =
@@ -42,6 +54,10 @@ change-refusal-spec =
     period-fits-requires
     row-requires
     enum-told-3
+    enum-told-4
+    deletion-fits-requires
+    row-requires-2
     returns
     returns-2
-    returns-3)
+    returns-3
+    returns-4)

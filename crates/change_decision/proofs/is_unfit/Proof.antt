@@ -15,6 +15,9 @@ enum-told c = search needs
 enum-told-2 : tie.Need-enum-told-2
 enum-told-2 c = search needs
 
+enum-told-3 : tie.Need-enum-told-3
+enum-told-3 c = search needs
+
 returns : tie.Need-returns
 returns c = rw (c .before .before .c .given .1, c .standards-in-range .ensures)
 
@@ -24,6 +27,9 @@ returns-2 c = search needs
 returns-3 : tie.Need-returns-3
 returns-3 c = search needs
 
+returns-4 : tie.Need-returns-4
+returns-4 c = search needs
+
 pub is-unfit-spec : {M : Type 1} → statement M
 is-unfit-spec =
     tie.close
@@ -32,6 +38,8 @@ is-unfit-spec =
     standards-in-range-requires
     enum-told
     enum-told-2
+    enum-told-3
     returns
     returns-2
-    returns-3)
+    returns-3
+    returns-4)

@@ -47,13 +47,21 @@ returns-6 : tie.Need-returns-6
 unfolding callOf
 returns-6 c = rw (c .before .if6 .taken) (c .bare-request3 .ensures)
 
+bare-request-requires-4 : tie.Need-bare-request-requires-4
+bare-request-requires-4 c κs = search needs
+
 returns-7 : tie.Need-returns-7
-returns-7 c =
-    let p = c .before in
+unfolding callOf
+returns-7 c = rw (c .before .if7 .taken) (c .bare-request4 .ensures)
+
+returns-8 : tie.Need-returns-8
+returns-8 c =
+    let z = c .before in
+    let p = z .before in
     let a = p .before in
     let start = a .before .before .before .before .before in
     other-letter (start .args .values .now) (start .args .letter) (a .before .before .before .if1 .left) (a .before .before .if2 .left) (a .before .if3 .left)
-    (a .if4 .left) (p .if5 .left) (c .if6 .left)
+    (a .if4 .left) (p .if5 .left) (z .if6 .left) (c .if7 .left)
 
 pub requested-spec : {M : Type 1} → statement M
 requested-spec =
@@ -71,4 +79,6 @@ requested-spec =
     returns-5
     bare-request-requires-3
     returns-6
-    returns-7)
+    bare-request-requires-4
+    returns-7
+    returns-8)
