@@ -64,14 +64,14 @@ fn deletion(p: Progress) -> Progress
     ensures { λ r. ⌜ progressOf r ≡ after Event.Deletion (progressOf p) ⌝ }
     ensures { λ r. ⌜ Consistent r ⌝ }
 {
-    let engines = p.engines;
-    let mut next = p;
-    next.engines = without_newest(engines);
-    next.stored = p.stored + 1;
-    next.current = p.current - 1;
-    let worked = rework(next, RESOLUTION);
+    let rest = without_newest(p.engines);
+    let worked = rework(rest, RESOLUTION);
     let hcnox = worked.hcnox;
     let co = worked.co;
+    let mut next = p;
+    next.engines = rest;
+    next.stored = p.stored + 1;
+    next.current = p.current - 1;
     next.hcnox = hcnox;
     next.co = co;
     next

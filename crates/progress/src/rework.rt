@@ -4,7 +4,7 @@ ghost use Rattle.year.specs.Setup.{Hcnox, Co};
 ghost use Rattle.year.specs.Replay.{history};
 ghost use Rattle.figures.specs.Running.{running};
 ghost use Rattle.engines.specs.Engines.{tested, EnginesInRange};
-use crate::Progress;
+use engines::Engines;
 use engines::rework::running_at;
 use figures::Running;
 
@@ -14,12 +14,11 @@ pub struct Reworked {
     pub co: Running,
 }
 
-pub fn rework(p: Progress, resolution: u64) -> Reworked
-    requires { ⌜ EnginesInRange (p .engines) resolution ⌝ }
-    ensures { λ r. ⌜ r .hcnox ≡ running resolution (history Hcnox (tested (p .engines))) ⌝ }
-    ensures { λ r. ⌜ r .co ≡ running resolution (history Co (tested (p .engines))) ⌝ }
+pub fn rework(engines: Engines, resolution: u64) -> Reworked
+    requires { ⌜ EnginesInRange engines resolution ⌝ }
+    ensures { λ r. ⌜ r .hcnox ≡ running resolution (history Hcnox (tested engines)) ⌝ }
+    ensures { λ r. ⌜ r .co ≡ running resolution (history Co (tested engines)) ⌝ }
 {
-    let engines = p.engines;
     let count = engines.count;
     let hcnox_results = engines.hcnox_results;
     let hcnox_standards = engines.hcnox_standards;

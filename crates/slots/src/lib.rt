@@ -7,12 +7,12 @@ ghost use Rattle.slots.specs.Scanned.{ScannedAs, Entered, entered};
 use admission::is_admissible;
 use conditions::both;
 use cumsum::RESOLUTION;
-use engines::rework::running_at;
 use event_decoder::event_at;
 use event_decoder::is_slot;
 use figures::add;
 use progress::Progress;
 use progress::events::start;
+use progress::rework::rework;
 use rounding::Factor;
 use year::Event;
 use year::Factors;
@@ -92,18 +92,11 @@ pub fn enter_slots(journal: &[u8], count: usize, first: Progress) -> Scanned
             Event::Deletion => {
                 engines.count -= 1;
                 p.current -= 1;
-                p.hcnox = running_at(
-                    engines.hcnox_results,
-                    engines.hcnox_standards,
-                    engines.count,
-                    RESOLUTION,
-                );
-                p.co = running_at(
-                    engines.co_results,
-                    engines.co_standards,
-                    engines.count,
-                    RESOLUTION,
-                );
+                let worked = rework(engines, RESOLUTION);
+                let hcnox = worked.hcnox;
+                let co = worked.co;
+                p.hcnox = hcnox;
+                p.co = co;
             }
         }
     }

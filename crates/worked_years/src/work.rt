@@ -74,7 +74,7 @@ fn at_most(n: u64, most: u64) -> u64
 fn print_year(p: Progress, resolution: u32)
     requires { ⌜ Consistent p ⌝ }
 {
-    let again = rework(p, at_most(resolution as u64, 8192));
+    let again = rework(p.engines, at_most(resolution as u64, 8192));
     let hcnox = again.hcnox;
     let co = again.co;
     number(p.stored as u64);

@@ -11,8 +11,7 @@ use borrow.Author.Tests.{not-true}
 use Rattle.conditions.proofs.Tests.{not-false}
 use Rattle.year.specs.declared.Pair.{Pair}
 use Rattle.year.specs.declared.Event.{Event}
-use Rattle.year.specs.declared.Event.the-variants.{Deletion}
-use Rattle.year.specs.Setup.{Pollutant, Hcnox, Co}
+use Rattle.year.specs.Setup.{Hcnox, Co}
 use Rattle.year.specs.Replay.{after}
 use Rattle.year.specs.Admissible.{admissible}
 use Rattle.journal.specs.Encode.{slotPlace}
@@ -20,8 +19,7 @@ use Rattle.journal.specs.Read.{eventIn}
 use Rattle.journal.specs.Acceptance.{entersAt}
 use Rattle.engines.specs.declared.Engines.{Engines}
 use Rattle.engines.proofs.Sized.{Sized, sized}
-use Rattle.engines.specs.Engines.{resultColumn, standardColumn, ColumnsInRange}
-use Rattle.engines.proofs.Arrays.{narrow, tested-next, with-engine-sized, without-newest, tested-fewer, fewer-sized, columns-fit, reworked}
+use Rattle.engines.proofs.Arrays.{narrow, tested-next, with-engine-sized, without-newest, tested-fewer, fewer-sized}
 use Rattle.progress.specs.declared.Progress.{Progress as State}
 use Rattle.progress.specs.State.{progressOf, Consistent}
 use Rattle.progress.proofs.Carried.{Room, room, Deletable, deletable}
@@ -157,17 +155,12 @@ module _ (c : tie.After-enum-told3 Inv-loop μ-loop) where
   can : Deletable whole
   can = deletable whole (entered (deletion-slot .before) .consistent) (admissible-here deletion-slot (c .enum-told3 .given .1))
 
-  fewer : (q : Pollutant) → ColumnsInRange (resultColumn q rest) (standardColumn q rest) (rest .count) 1024
-  fewer q = columns-fit q rest 1024 (can .rest rest (tested-fewer (whole .engines)))
-
 loop-again-5 : tie.Need-loop-again-5 Inv-loop μ-loop
 loop-again-5 c =
-    let h = c .before .before .before in
-    let d = h .before .before .before .before in
-    let e = rest d in
+    let r = c .before .before in
+    let d = r .before .before in
     round (deletion-slot d) (d .enum-told3 .given .1)
-    (λ w a. deleted (whole d) w e _ _ a (tested-fewer (whole d .engines))
-    (record { hcnox = reworked Hcnox e 1024 (h .running-at .result) (h .running-at .ensures); co = reworked Co e 1024 (c .running-at2 .result) (c .running-at2 .ensures) }))
+    (λ w a. deleted (whole d) w (rest d) _ _ a (tested-fewer (whole d .engines)) (record { hcnox = r .rework .ensures .0; co = r .rework .ensures .1 }))
     (fewer-sized (whole d .engines) (size (deletion-slot d .before)))
 
 returns-2 : tie.Need-returns-2 Inv-loop μ-loop
@@ -213,7 +206,7 @@ enter-slots-spec =
     (λ c. let k = c .before .before .before in round k (c .enum-told2 .given .1) (declared _) (size (k .before)))
     -- a deletion
     (λ c. search needs) (λ c. can c .place) (λ c. can (c .before) .current)
-    (λ c κs. fewer (c .before .before .before) Hcnox) (λ c κs. fewer (c .before .before .before .before .before .before) Co)
-    (λ c. omega (arith, more (deletion-slot (c .before .before .before .before .before .before .before) .before)))
+    (λ c κs. can (c .before) .rest (rest (c .before)) (tested-fewer (whole (c .before) .engines)))
+    (λ c. omega (arith, more (deletion-slot (c .before .before .before .before) .before)))
     loop-again-5
     returns-2)

@@ -5,16 +5,16 @@ use Rattle.progress.proofs.rework.rework.Statement.{statement}
 use Rattle.progress.proofs.rework.rework.Tie as tie
 
 running-at-requires : tie.Need-running-at-requires
-running-at-requires c κs = let s = c .before .before .before .before .before in columns-fit Hcnox (s .args .p .engines) (s .args .resolution) (s .pre)
+running-at-requires c κs = let s = c .before .before .before .before in columns-fit Hcnox (s .args .engines) (s .args .resolution) (s .pre)
 
 running-at-requires-2 : tie.Need-running-at-requires-2
-running-at-requires-2 c κs = let s = c .before .before .before .before .before .before in columns-fit Co (s .args .p .engines) (s .args .resolution) (s .pre)
+running-at-requires-2 c κs = let s = c .before .before .before .before .before in columns-fit Co (s .args .engines) (s .args .resolution) (s .pre)
 
 returns : tie.Need-returns
 returns c =
-    let a = c .before .before .before .before .before .before .before .args in (
-      reworked Hcnox (a .p .engines) (a .resolution) (c .before .running-at .result) (c .before .running-at .ensures),
-      reworked Co (a .p .engines) (a .resolution) (c .running-at2 .result) (c .running-at2 .ensures),
+    let a = c .before .before .before .before .before .before .args in (
+      reworked Hcnox (a .engines) (a .resolution) (c .before .running-at .result) (c .before .running-at .ensures),
+      reworked Co (a .engines) (a .resolution) (c .running-at2 .result) (c .running-at2 .ensures),
     )
 
 pub rework-spec : {M : Type 1} → statement M
