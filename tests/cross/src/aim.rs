@@ -77,7 +77,7 @@ fn beside(random: &mut Random, worker: &Pollutant, wish: u8) -> Aim {
 
 /// The nearest standard.
 fn ten(level: f64) -> u32 {
-    (10.0 * (level / 10.0).round()).clamp(10.0, 20_000.0) as u32
+    (10 * (level / 10.0 + 0.5) as u32).clamp(10, 20_000)
 }
 
 /// A result not far from the earlier ones.

@@ -1,7 +1,5 @@
 //! Counts of what a run has met.
 
-use std::slice;
-
 use crate::kinds::KINDS;
 use crate::model::Status;
 
@@ -15,12 +13,12 @@ pub enum Column {
     Marks,
 }
 
-const LETTERS: &[u8; 6] = b"SEAPXL";
+const LETTERS: &[u8; 7] = b"SEAPXLZ";
 const COLUMNS: usize = LETTERS.len() + 4;
 const NAMES: [&str; COLUMNS] = [
-    "S", "E", "A", "P", "X", "L", "other", "engine", "status", "marks",
+    "S", "E", "A", "P", "X", "L", "Z", "other", "engine", "status", "marks",
 ];
-const REFUSALS: usize = 17;
+const REFUSALS: usize = 18;
 
 /// What each sort of call can answer, 0 for accepted; a run has to meet it all.
 const POSSIBLE: [&[usize]; COLUMNS] = [
@@ -30,12 +28,14 @@ const POSSIBLE: [&[usize]; COLUMNS] = [
     &[0, 1, 2, 3, 7, 8, 9, 15],
     &[0, 1, 2, 3, 7, 8, 9],
     &[0, 1, 2, 3, 7],
+    &[0, 1, 2, 3, 7, 8, 9, 17],
     &[1, 2],
     &[0, 3, 7, 8, 9, 10, 11, 12, 13, 14],
     &[0, 3, 7],
     &[0, 3, 7, 16],
 ];
 
+const VERSIONS: usize = 2;
 const VERDICTS: usize = 8;
 const MARKS: &[u8; 4] = b"-U?O";
 
@@ -48,10 +48,10 @@ impl Column {
     fn place(self) -> usize {
         match self {
             Column::Letter(place) => place,
-            Column::Other => 6,
-            Column::Engine => 7,
-            Column::Status => 8,
-            Column::Marks => 9,
+            Column::Other => LETTERS.len(),
+            Column::Engine => LETTERS.len() + 1,
+            Column::Status => LETTERS.len() + 2,
+            Column::Marks => LETTERS.len() + 3,
         }
     }
 }
@@ -64,6 +64,12 @@ pub struct Counts {
     kinds: [(u64, u64); KINDS.len()],
     /// Calls by refusal, 0 for accepted, and by sort of call.
     refusals: [[u64; COLUMNS]; REFUSALS],
+    /// Accepted journals read, by version, from 1.
+    versions: [u64; VERSIONS],
+    /// Deletions after which all was as before the engine, and years that told
+    /// the same without their deleted engines.
+    undone: u64,
+    never_entered: u64,
     verdicts: [u64; VERDICTS],
     /// By pollutant: the newest marks reported, and the marks written.
     newest: [[u64; MARKS.len()]; 2],
@@ -88,11 +94,11 @@ impl Counts {
             all.0 += cases;
             all.1 += calls;
         }
+        self.undone += case.undone;
+        self.never_entered += case.never_entered;
         add_each(&mut self.refusals, &case.refusals);
-        add_each(
-            slice::from_mut(&mut self.verdicts),
-            slice::from_ref(&case.verdicts),
-        );
+        add_row(&mut self.versions, &case.versions);
+        add_row(&mut self.verdicts, &case.verdicts);
         add_each(&mut self.newest, &case.newest);
         add_each(&mut self.written, &case.written);
     }
@@ -106,6 +112,19 @@ impl Counts {
     pub fn short(&mut self) {
         self.calls += 1;
         self.short += 1;
+    }
+
+    /// An accepted journal that was read.
+    pub fn version(&mut self, version: u8) {
+        self.versions[usize::from(version) - 1] += 1;
+    }
+
+    pub fn undone(&mut self) {
+        self.undone += 1;
+    }
+
+    pub fn never_entered(&mut self) {
+        self.never_entered += 1;
     }
 
     pub fn status(&mut self, status: &Status) {
@@ -156,6 +175,14 @@ impl Counts {
         if self.short == 0 {
             missing.push("a buffer too small for any answer".to_string());
         }
+        for (place, count) in self.versions.iter().enumerate() {
+            if *count == 0 {
+                missing.push(format!("a journal of version {}", place + 1));
+            }
+        }
+        if self.undone == 0 || self.never_entered == 0 {
+            missing.push("deleted engines compared".to_string());
+        }
         for (verdict, count) in self.verdicts.iter().enumerate() {
             if *count == 0 {
                 missing.push(format!("verdict {verdict}"));
@@ -187,6 +214,18 @@ impl Counts {
         }
         self.print_refusals();
         println!("\nbuffers too small for any answer: {}", self.short);
+        println!("\nversion        read");
+        for (place, count) in self.versions.iter().enumerate() {
+            println!("{:>7} {count:>11}", place + 1);
+        }
+        println!(
+            "\ndeletions compared with the status before the engine: {}",
+            self.undone
+        );
+        println!(
+            "years compared with the same without deleted engines: {}",
+            self.never_entered
+        );
         println!("\nverdict        told");
         for (verdict, count) in self.verdicts.iter().enumerate() {
             println!("{verdict:>7} {count:>11}");
@@ -209,7 +248,11 @@ impl Counts {
 }
 
 fn add_each<const N: usize>(all: &mut [[u64; N]], case: &[[u64; N]]) {
-    for (sum, count) in all.iter_mut().flatten().zip(case.iter().flatten()) {
+    add_row(all.as_flattened_mut(), case.as_flattened());
+}
+
+fn add_row(all: &mut [u64], case: &[u64]) {
+    for (sum, count) in all.iter_mut().zip(case) {
         *sum += count;
     }
 }

@@ -31,6 +31,7 @@ impl<'a> Drive<'a> {
             Move::Amendment(standards) => self.twin.command(&journal::line(b'A', &standards)),
             Move::NextPeriod => self.twin.command(b"P"),
             Move::Declaration => self.twin.command(b"X"),
+            Move::Deletion => self.twin.command(b"Z"),
         };
         if refusal != 0 {
             return false;
@@ -40,8 +41,25 @@ impl<'a> Drive<'a> {
             Move::Amendment(standards) => self.year.amendment(standards),
             Move::NextPeriod => self.year.next_period(),
             Move::Declaration => self.year.declaration(),
+            Move::Deletion => self.year.deletion(),
         }
         true
+    }
+
+    /// Enters an engine and deletes it, now and then with an amendment between
+    /// the two. If all are accepted, the library has to tell what it told before.
+    pub fn detour(&mut self, results: [u32; 2]) {
+        let before = self.twin.told();
+        if !self.enter(Move::Engine(results)) {
+            return;
+        }
+        if self.random.one_in(4) {
+            let standards = self.year.standards;
+            self.enter(Move::Amendment(standards.map(|t| (t + 10).min(20_000))));
+        }
+        if self.enter(Move::Deletion) {
+            self.twin.expect_told(&before);
+        }
     }
 
     /// Enters an engine with readings that aim at these results.

@@ -25,16 +25,17 @@ const COUNTS: [usize; 12] = [0, 0, 1, 2, 3, 4, 5, 6, 7, 8, 257, 258];
 
 /// Makes a random call; of its arguments, one in `rate` is faulty.
 pub fn call(twin: &mut Twin, random: &mut Random, rate: usize) -> u8 {
-    match random.weighted(&[3, 8, 8, 4, 4, 1, 2, 3, 3, 1]) {
+    match random.weighted(&[3, 8, 8, 4, 4, 1, 5, 2, 3, 3, 1]) {
         0 => twin.command(&setup(random, rate).line()),
         1 => twin.command(&engine_line(twin.journal(), random, rate)),
         2 => engine(twin, random, rate),
         3 => twin.command(&journal::line(b'A', &standards(random, rate))),
         4 => twin.command(b"P"),
         5 => twin.command(b"X"),
-        6 => twin.command(b"L"),
-        7 => marks(twin, random),
-        8 => twin.status(),
+        6 => twin.command(b"Z"),
+        7 => twin.command(b"L"),
+        8 => marks(twin, random),
+        9 => twin.status(),
         _ => short(twin, random, rate),
     }
 }
@@ -135,11 +136,11 @@ fn number(journal: &[u8], random: &mut Random, rate: usize) -> u32 {
     if !random.one_in(rate) {
         return random.between(1, 65_535);
     }
-    let used = journal::numbers(journal);
-    if used.is_empty() || random.one_in(2) {
+    let entered = journal::numbers(journal);
+    if entered.is_empty() || random.one_in(2) {
         return random.pick(&BAD_NUMBERS);
     }
-    random.pick(&used)
+    random.pick(&entered)
 }
 
 fn count(random: &mut Random, rate: usize) -> usize {
@@ -201,7 +202,7 @@ fn any_line(journal: &[u8], random: &mut Random, rate: usize) -> Vec<u8> {
         0 => setup(random, rate).line(),
         1 => engine_line(journal, random, rate),
         2 => journal::line(b'A', &standards(random, rate)),
-        _ => vec![random.pick(b"PXL")],
+        _ => vec![random.pick(b"PXLZ")],
     }
 }
 

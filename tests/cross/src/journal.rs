@@ -3,12 +3,14 @@
 pub const LENGTH: usize = 544;
 pub const HEADER: usize = 32;
 pub const SLOTS: usize = 64;
+pub const VERSION_AT: usize = 3;
 pub const COUNT_AT: usize = 24;
 
 pub type Slot = [u8; 8];
 
 pub const NEXT_PERIOD: Slot = [3, 0, 0, 0, 0, 0, 0, 0];
 pub const DECLARATION: Slot = [4, 0, 0, 0, 0, 0, 0, 0];
+pub const DELETION: Slot = [5, 0, 0, 0, 0, 0, 0, 0];
 
 /// The numbers of a setup, in range or not.
 #[derive(Clone, Copy, Debug)]
@@ -94,7 +96,7 @@ pub fn amendment_slot(standards: [u32; 2]) -> Slot {
 /// A journal of this setup and the first 64 of these slots.
 pub fn write(setup: &Setup, slots: &[Slot]) -> Vec<u8> {
     let mut journal = vec![0; LENGTH];
-    journal[0..4].copy_from_slice(b"PLT\x01");
+    journal[0..3].copy_from_slice(b"PLT");
     journal[8..12].copy_from_slice(&setup.volume.to_le_bytes());
     journal[12..14].copy_from_slice(&(setup.days as u16).to_le_bytes());
     for place in 0..2 {
@@ -104,11 +106,26 @@ pub fn write(setup: &Setup, slots: &[Slot]) -> Vec<u8> {
         journal[18 + place] = setup.kinds[place] as u8;
         journal[20 + 2 * place..22 + 2 * place].copy_from_slice(&factor);
     }
+    put_slots(&mut journal, slots);
+    journal
+}
+
+/// Puts the first 64 of these slots into a journal, with their number and the
+/// version that fits them.
+pub fn put_slots(journal: &mut [u8], slots: &[Slot]) {
+    journal[VERSION_AT] = version_of(slots);
     journal[COUNT_AT] = slots.len().min(255) as u8;
-    for (part, slot) in journal[HEADER..].chunks_mut(8).zip(slots) {
+    let parts = &mut journal[HEADER..LENGTH];
+    parts.fill(0);
+    for (part, slot) in parts.chunks_mut(8).zip(slots) {
         part.copy_from_slice(slot);
     }
-    journal
+}
+
+/// The version that fits these slots.
+pub fn version_of(slots: &[Slot]) -> u8 {
+    let deletion = slots.iter().any(|slot| slot[0] == DELETION[0]);
+    if deletion { 2 } else { 1 }
 }
 
 /// Where slot `place` starts.
@@ -132,7 +149,7 @@ pub fn factors(journal: &[u8]) -> Option<[(u8, u16); 2]> {
     Some([(header[18], word(20)), (header[19], word(22))])
 }
 
-/// The engine numbers in use.
+/// The engine numbers in use, and those of deleted engines.
 pub fn numbers(journal: &[u8]) -> Vec<u32> {
     let engines = slots(journal).into_iter().filter(|slot| slot[0] == 1);
     engines
@@ -140,7 +157,25 @@ pub fn numbers(journal: &[u8]) -> Vec<u32> {
         .collect()
 }
 
-/// The number of engines.
+/// The number of engines that remain.
 pub fn engines(journal: &[u8]) -> usize {
-    slots(journal).iter().filter(|slot| slot[0] == 1).count()
+    let slots = slots(journal);
+    let count = |kind: u8| slots.iter().filter(|slot| slot[0] == kind).count();
+    count(1).saturating_sub(count(DELETION[0]))
+}
+
+/// An accepted journal as it would be had its deleted engines never been
+/// entered.
+pub fn without_deleted(journal: &[u8]) -> Vec<u8> {
+    let mut left: Vec<Slot> = Vec::new();
+    for slot in slots(journal) {
+        if slot != DELETION {
+            left.push(slot);
+        } else if let Some(newest) = left.iter().rposition(|slot| slot[0] == 1) {
+            left.remove(newest);
+        }
+    }
+    let mut other = journal.to_vec();
+    put_slots(&mut other, &left);
+    other
 }

@@ -13,6 +13,7 @@ pub enum Move {
     Amendment([u32; 2]),
     NextPeriod,
     Declaration,
+    Deletion,
 }
 
 /// How the results of a year are chosen.
@@ -25,6 +26,10 @@ pub struct Plan {
     free: bool,
     /// Results to enter after an amendment made for them.
     pending: Option<[u32; 2]>,
+    /// One in this many moves is a deletion, or the first of several.
+    deletions: Option<usize>,
+    /// How many more are to follow the last one.
+    more: usize,
 }
 
 impl Plan {
@@ -35,6 +40,8 @@ impl Plan {
             hunted: [false; 2],
             free: false,
             pending: None,
+            deletions: random.pick(&[None, None, None, Some(4), Some(12), Some(30)]),
+            more: 0,
         }
     }
 
@@ -53,9 +60,20 @@ impl Plan {
         plan
     }
 
+    /// The same without deletions.
+    pub fn without_deletions(self) -> Self {
+        Plan {
+            deletions: None,
+            ..self
+        }
+    }
+
     pub fn next(&mut self, random: &mut Random, year: &Year) -> Move {
         if let Some(results) = self.pending.take() {
             return Move::Engine(results);
+        }
+        if self.deletes(random, year) {
+            return Move::Deletion;
         }
         if !year.short() && !year.last_period() && random.one_in(4) {
             return Move::NextPeriod;
@@ -64,6 +82,18 @@ impl Plan {
             return Move::Amendment(year.standards.map(|t| self.amended(random, t)));
         }
         self.engine(random, year)
+    }
+
+    /// Whether a deletion comes next; now and then where it is refused.
+    fn deletes(&mut self, random: &mut Random, year: &Year) -> bool {
+        if self.more == 0 && self.deletions.is_some_and(|moves| random.one_in(moves)) {
+            self.more = random.pick(&[1, 1, 1, 2, 3, 8]);
+        }
+        if self.more == 0 {
+            return false;
+        }
+        self.more -= 1;
+        year.deletable() || random.one_in(4)
     }
 
     fn amended(&self, random: &mut Random, standard: u32) -> u32 {

@@ -13,6 +13,7 @@ enum End {
     Open,
     Failed,
     Declared,
+    Deleted,
 }
 
 /// A journal of any sort, accepted or not.
@@ -30,6 +31,7 @@ pub fn year(random: &mut Random) -> Year {
     let mut year = Year::new(setup);
     let (engines, events) = random.pick(&[
         (0, 0),
+        (0, 64),
         (1, 0),
         (2, 0),
         (3, 5),
@@ -45,11 +47,18 @@ pub fn year(random: &mut Random) -> Year {
         (5, 64),
     ]);
     grow(random, &mut year, engines);
-    let end = random.pick(&[End::Open, End::Open, End::Open, End::Failed, End::Declared]);
+    let end = random.pick(&[
+        End::Open,
+        End::Open,
+        End::Open,
+        End::Failed,
+        End::Declared,
+        End::Deleted,
+    ]);
     let room = match end {
         End::Open => 0,
         End::Failed => random.below(5),
-        End::Declared => 1,
+        End::Declared | End::Deleted => 1,
     };
     pad(random, &mut year, events.max(room) - room);
     close(random, &mut year, end);
@@ -69,21 +78,38 @@ fn grow(random: &mut Random, year: &mut Year, engines: usize) {
     }
 }
 
-/// Adds amendments until there are this many events.
+/// Adds amendments until there are this many events, or now and then deletions,
+/// each with another engine after it.
 fn pad(random: &mut Random, year: &mut Year, events: usize) {
+    let replaces = random.one_in(8);
     while year.events() < events && year.open() {
-        let same = random.one_in(2);
-        let standards = year.standards;
-        year.amendment(standards.map(|t| if same { t } else { setups::standard(random) }));
+        if replaces && year.deletable() && year.events() + 1 < events {
+            replace(random, year);
+        } else {
+            amend(random, year);
+        }
     }
 }
 
+fn replace(random: &mut Random, year: &mut Year) {
+    year.deletion();
+    let results = year.standards.map(|t| random.between(0, t));
+    enter(random, year, Move::Engine(results));
+}
+
+fn amend(random: &mut Random, year: &mut Year) {
+    let same = random.one_in(2);
+    let standards = year.standards;
+    year.amendment(standards.map(|t| if same { t } else { setups::standard(random) }));
+}
+
 fn close(random: &mut Random, year: &mut Year, end: End) {
+    let room = year.open() && year.events() < journal::SLOTS;
     match end {
-        End::Open => {}
         End::Failed => fail(random, year),
-        End::Declared if year.open() && year.events() < journal::SLOTS => year.declaration(),
-        End::Declared => {}
+        End::Declared if room => year.declaration(),
+        End::Deleted if room && year.deletable() => year.deletion(),
+        End::Open | End::Declared | End::Deleted => {}
     }
 }
 
@@ -103,7 +129,7 @@ fn fail(random: &mut Random, year: &mut Year) {
     }
 }
 
-/// Adds one event without checking it.
+/// Adds one event without checking it, but no deletion without an engine.
 pub fn enter(random: &mut Random, year: &mut Year, step: Move) {
     match step {
         Move::Engine(results) => {
@@ -113,5 +139,7 @@ pub fn enter(random: &mut Random, year: &mut Year, step: Move) {
         Move::Amendment(standards) => year.amendment(standards),
         Move::NextPeriod => year.next_period(),
         Move::Declaration => year.declaration(),
+        Move::Deletion if year.deletable() => year.deletion(),
+        Move::Deletion => {}
     }
 }

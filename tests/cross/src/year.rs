@@ -11,7 +11,11 @@ pub struct Year {
     pub standards: [u32; 2],
     pub workers: [Pollutant; 2],
     pub slots: Vec<Slot>,
+    /// The workers before each engine that remains.
+    before: Vec<[Pollutant; 2]>,
+    /// The numbers of the engines that remain, and of those deleted.
     numbers: Vec<u32>,
+    deleted: Vec<u32>,
     period: u32,
     in_period: u32,
     declared: bool,
@@ -24,7 +28,9 @@ impl Year {
             standards: setup.standards,
             workers: [Pollutant::new(), Pollutant::new()],
             slots: Vec::new(),
+            before: Vec::new(),
             numbers: Vec::new(),
+            deleted: Vec::new(),
             period: 1,
             in_period: 0,
             declared: false,
@@ -57,7 +63,13 @@ impl Year {
         self.period >= self.setup.periods()
     }
 
+    /// The newest engine was entered in the current period.
+    pub fn deletable(&self) -> bool {
+        self.in_period > 0
+    }
+
     pub fn engine(&mut self, readings: u8, results: [u32; 2], number: u32) {
+        self.before.push(self.workers);
         for (place, worker) in self.workers.iter_mut().enumerate() {
             worker.add(results[place], self.standards[place]);
         }
@@ -83,12 +95,21 @@ impl Year {
         self.slots.push(journal::DECLARATION);
     }
 
-    /// An engine number that is not in use.
+    /// Deletes the newest engine, which is of the current period.
+    pub fn deletion(&mut self) {
+        self.workers = self.before.pop().expect("an engine to delete");
+        self.deleted.extend(self.numbers.pop());
+        self.in_period -= 1;
+        self.slots.push(journal::DELETION);
+    }
+
+    /// An engine number that is not in use, sometimes a deleted engine's.
     pub fn free_number(&self, random: &mut Random) -> u32 {
         loop {
-            let number = match random.below(3) {
+            let number = match random.below(4) {
                 0 => self.engines() as u32 + 1,
                 1 => random.pick(&[1, 255, 256, 65_534, 65_535]),
+                2 if !self.deleted.is_empty() => random.pick(&self.deleted),
                 _ => random.between(1, 65_535),
             };
             if !self.numbers.contains(&number) {

@@ -3,7 +3,7 @@
 use std::hint::black_box;
 use std::time::Instant;
 
-use cross::journal::{self, COUNT_AT, Setup};
+use cross::journal::{self, COUNT_AT, SLOTS, Setup, VERSION_AT};
 use cross::library::{self, FIGURES, REPLY};
 use cross::model;
 use cross::words::words_of;
@@ -18,6 +18,15 @@ const ENGINE_1: &[u8] = b"E 5000 771000 5002000";
 const ENGINE_3: &[u8] = b"E 5000 771000 780400 765999 5002000 5011111 4990000";
 const SETUP: &[u8] = b"S 100000 366 800 6100 0 0 1 1050";
 const REFUSED: &[u8] = b"E 5000 771000 5002000 7";
+const DELETION: &[u8] = b"Z";
+
+const YEAR: Setup = Setup {
+    volume: 100_000,
+    days: 366,
+    standards: [800, 6_100],
+    kinds: [0, 1],
+    factors: [0, 1_050],
+};
 
 struct Row {
     name: &'static str,
@@ -28,7 +37,8 @@ struct Row {
 fn main() {
     let ten = year(10, 0).journal();
     let full = year(40, 64).journal();
-    for journal in [&ten, &full] {
+    let deletions = year_of_deletions().journal();
+    for journal in [&ten, &full, &deletions] {
         assert!(model::status(journal).is_ok_and(|status| status.verdict < 6));
     }
     let rows = [
@@ -39,6 +49,8 @@ fn main() {
         marks_row("marks of a full journal", &full),
         line_row("setup command", &ten, SETUP),
         line_row("refused line", &ten, REFUSED),
+        status_row("scan of 64 events with many strikes (status)", &deletions),
+        entry_row("strike command", &ten, DELETION, take_back_deletion),
     ];
     print(&rows);
 }
@@ -46,16 +58,9 @@ fn main() {
 /// A year of this many engines in four periods, filled with amendments up to
 /// this many events.
 fn year(engines: u32, events: usize) -> Year {
-    let mut year = Year::new(Setup {
-        volume: 100_000,
-        days: 366,
-        standards: [800, 6_100],
-        kinds: [0, 1],
-        factors: [0, 1_050],
-    });
+    let mut year = Year::new(YEAR);
     for number in 1..=engines {
-        let results = [700 + number * 37 % 101, 5_000 + number * 71 % 257];
-        year.engine(1 + (number % 3) as u8, results, number);
+        engine(&mut year, number);
         if number > engines / 2 && !year.last_period() {
             year.next_period();
         }
@@ -70,8 +75,38 @@ fn year(engines: u32, events: usize) -> Year {
     year
 }
 
+/// A year of 38 engines, the last of which is deleted and replaced until there
+/// are 64 events.
+fn year_of_deletions() -> Year {
+    let mut year = Year::new(YEAR);
+    for number in 1..=38 {
+        engine(&mut year, number);
+    }
+    while year.events() < SLOTS {
+        year.deletion();
+        let number = year.events() as u32;
+        engine(&mut year, number);
+    }
+    year
+}
+
+fn engine(year: &mut Year, number: u32) {
+    let results = [700 + number * 37 % 101, 5_000 + number * 71 % 257];
+    year.engine(1 + (number % 3) as u8, results, number);
+}
+
 /// A line; what it enters is undone after each call.
 fn line_row(name: &'static str, journal: &[u8], line: &[u8]) -> Row {
+    entry_row(name, journal, line, take_back)
+}
+
+/// A line, with what undoes it.
+fn entry_row(
+    name: &'static str,
+    journal: &[u8],
+    line: &[u8],
+    take_back: impl Fn(&mut [u8], u8),
+) -> Row {
     let (mut left, mut right) = (journal.to_vec(), journal.to_vec());
     let (mut left_reply, mut right_reply) = ([0; REPLY], [0; REPLY]);
     let count = journal[COUNT_AT];
@@ -98,6 +133,12 @@ fn take_back(journal: &mut [u8], count: u8) {
     let at = journal::slot_at(count.into());
     journal[COUNT_AT] = count;
     journal[at..at + 8].fill(0);
+}
+
+/// Restores the version too, for a deletion's row.
+fn take_back_deletion(journal: &mut [u8], count: u8) {
+    take_back(journal, count);
+    journal[VERSION_AT] = 1;
 }
 
 fn status_row(name: &'static str, journal: &[u8]) -> Row {
@@ -166,13 +207,13 @@ fn median(mut times: Vec<f64>) -> f64 {
 }
 
 fn print(rows: &[Row]) {
-    println!("row                              library ns    model ns   ratio");
+    println!("row                                          library ns    model ns   ratio");
     let mut worst: f64 = 0.0;
     for row in rows {
         let ratio = row.library / row.model;
         worst = worst.max(ratio);
         println!(
-            "{:<32} {:>10.1}  {:>10.1} {ratio:>7.2}",
+            "{:<44} {:>10.1}  {:>10.1} {ratio:>7.2}",
             row.name, row.library, row.model
         );
     }

@@ -1,7 +1,7 @@
 //! Damaged journals, and ones written directly with faults among the events.
 
 use crate::faults;
-use crate::journal::{self, COUNT_AT, HEADER, LENGTH, SLOTS, Slot};
+use crate::journal::{self, COUNT_AT, DELETION, HEADER, LENGTH, SLOTS, Slot, VERSION_AT};
 use crate::random::Random;
 use crate::setups;
 use crate::twin::Twin;
@@ -36,13 +36,14 @@ pub fn damage(random: &mut Random, journal: &mut Vec<u8>) {
     if journal.is_empty() {
         return;
     }
-    match random.weighted(&[3, 3, 1, 3, 3, 3, 12]) {
+    match random.weighted(&[3, 3, 1, 3, 3, 3, 2, 14]) {
         0 => flip(random, journal),
         1 => overwrite(random, journal),
         2 => resize(random, journal),
         3 => splice(random, journal),
         4 => stain(random, journal),
         5 => new_header(random, journal),
+        6 => new_version(random, journal),
         _ => change_events(random, journal),
     }
 }
@@ -120,6 +121,25 @@ fn new_header(random: &mut Random, journal: &mut [u8]) {
     let header = journal::write(&setup, &[]);
     let length = COUNT_AT.min(journal.len());
     journal[..length].copy_from_slice(&header[..length]);
+    fit_version(random, journal);
+}
+
+/// Another version, in its low byte or its high one.
+fn new_version(random: &mut Random, journal: &mut [u8]) {
+    let at = random.pick(&[VERSION_AT, VERSION_AT, VERSION_AT, VERSION_AT + 1]);
+    if let Some(byte) = journal.get_mut(at) {
+        *byte = random.pick(&[0, 1, 1, 2, 2, 3, 255]);
+    }
+}
+
+/// Mostly the version that fits the events, so that it hides no other fault.
+fn fit_version(random: &mut Random, journal: &mut [u8]) {
+    let version = journal::version_of(&journal::slots(journal));
+    if !random.one_in(8)
+        && let Some(byte) = journal.get_mut(VERSION_AT)
+    {
+        *byte = version;
+    }
 }
 
 /// Mixed with another journal: all from some byte on, a slot, or every
@@ -142,6 +162,7 @@ fn splice(random: &mut Random, journal: &mut [u8]) {
     if random.one_in(2) && journal.len() > COUNT_AT {
         journal[COUNT_AT] = other[COUNT_AT];
     }
+    fit_version(random, journal);
 }
 
 /// Takes the events out, changes the list and writes it back.
@@ -153,13 +174,13 @@ fn change_events(random: &mut Random, journal: &mut [u8]) {
     for _ in 0..random.pick(&[1, 1, 2]) {
         change_list(random, &mut slots);
     }
-    journal[COUNT_AT] = slots.len().min(255) as u8;
+    let version = journal[VERSION_AT];
+    journal::put_slots(journal, &slots);
     if random.one_in(12) {
         journal[COUNT_AT] = random.pick(&TELLING);
     }
-    journal[HEADER..LENGTH].fill(0);
-    for (part, slot) in journal[HEADER..LENGTH].chunks_mut(8).zip(&slots) {
-        part.copy_from_slice(slot);
+    if random.one_in(8) {
+        journal[VERSION_AT] = version;
     }
 }
 
@@ -170,7 +191,7 @@ fn change_list(random: &mut Random, slots: &mut Vec<Slot>) {
         return;
     }
     let other = random.below(slots.len());
-    match random.below(6) {
+    match random.below(8) {
         0 => slots.insert(at, random_slot(random)),
         1 => slots.insert(at, slots[other]),
         2 => {
@@ -178,17 +199,36 @@ fn change_list(random: &mut Random, slots: &mut Vec<Slot>) {
         }
         3 => slots.swap(at, other),
         4 => slots[at] = random_slot(random),
+        5 => slots.insert(misplaced(random, slots), deletion(random)),
         _ => touch(random, &mut slots[at]),
     }
 }
 
+/// A place where mostly no deletion can be entered: before any engine, right
+/// after a next period, or at the end, maybe after a declaration or a failure.
+fn misplaced(random: &mut Random, slots: &[Slot]) -> usize {
+    let after = (1..=slots.len()).filter(|at| slots[at - 1] == journal::NEXT_PERIOD);
+    let places: Vec<usize> = after.chain([0, slots.len()]).collect();
+    random.pick(&places)
+}
+
+/// A deletion, now and then with a byte that is not zero.
+fn deletion(random: &mut Random) -> Slot {
+    let mut slot = DELETION;
+    if random.one_in(4) {
+        slot[random.between(1, 7) as usize] = random.pick(&[1, 2, 128, 255]);
+    }
+    slot
+}
+
 /// An event of any kind, mostly one that could be entered.
 fn random_slot(random: &mut Random) -> Slot {
-    match random.below(10) {
+    match random.below(12) {
         0 => random.word().to_le_bytes(),
         1 => journal::DECLARATION,
         2 | 3 => journal::NEXT_PERIOD,
-        4 | 5 => journal::amendment_slot(faults::standards(random, 10)),
+        4 | 5 => deletion(random),
+        6 | 7 => journal::amendment_slot(faults::standards(random, 10)),
         _ => {
             let results = [(); 2].map(|()| random.pick(&[0, 800, 19_999, 20_000, 20_001]));
             let readings = random.pick(&[1, 2, 3, 3, 3, 0, 4]);
@@ -206,7 +246,7 @@ fn touch(random: &mut Random, slot: &mut Slot) {
     };
     let word = (value as u16).to_le_bytes();
     match random.below(6) {
-        0 => slot[0] = random.pick(&[0, 1, 2, 3, 4, 5]),
+        0 => slot[0] = random.pick(&[0, 1, 2, 3, 4, 5, 5, 6]),
         1 => slot[1] = random.pick(&[0, 1, 2, 3, 4, 255]),
         2 => slot[6..8].copy_from_slice(&word),
         3 => slot[2..4].copy_from_slice(&word),

@@ -86,8 +86,15 @@ pub fn sample_size(twin: &mut Twin, random: &mut Random) {
     for result in results {
         let mut both = [quiet; 2];
         both[place] = result;
+        if drive.random.one_in(12) {
+            drive.detour(both);
+        }
         drive.enter(Move::Engine(both));
         drive.twin.status();
+    }
+    // A deletion leads to the limit again.
+    if drive.random.one_in(4) {
+        drive.detour([0, 0]);
     }
     drive.enter(Move::Engine([quiet, quiet]));
     end(&mut drive);
@@ -129,8 +136,14 @@ pub fn level_with_limit(twin: &mut Twin, random: &mut Random) {
             standards[place] = standard;
             drive.enter(Move::Amendment(standards));
         }
+        if drive.random.one_in(6) {
+            drive.detour([0, 0]);
+        }
         drive.enter(Move::Engine(both));
         drive.twin.status();
+    }
+    if drive.random.one_in(4) {
+        drive.detour([0, 0]);
     }
     end(&mut drive);
 }

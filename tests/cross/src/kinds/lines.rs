@@ -7,10 +7,10 @@ use crate::random::Random;
 use crate::twin::Twin;
 use crate::written;
 
-const ALPHABET: &[u8] = b"SEAPXLZ 0123456789";
+const ALPHABET: &[u8] = b"SEAPXLZQ 0123456789";
 
 /// Bytes put into a well-formed line.
-const STRANGE: &[u8] = b" \t\r\n\0+-.,/:;0129aelpsxEALPSXZ\x1f\x21\x2f\x3a\x80\xff";
+const STRANGE: &[u8] = b" \t\r\n\0+-.,/:;0129aelpsxzEALPQSXZ\x1f\x21\x2f\x3a\x80\xff";
 
 pub fn run(twin: &mut Twin, random: &mut Random) {
     let mut start = written::any_journal(random);
@@ -59,7 +59,7 @@ fn valid(journal: &[u8], random: &mut Random) -> Vec<u8> {
         0 | 1 => faults::setup(random, 30).line(),
         2..=4 => faults::engine_line(journal, random, 30),
         5 => journal::line(b'A', &faults::standards(random, 30)),
-        _ => vec![random.pick(b"PXL")],
+        _ => vec![random.pick(b"PXLZZ")],
     }
 }
 

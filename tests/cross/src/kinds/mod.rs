@@ -1,6 +1,7 @@
 //! The kinds of input. Each case is made wholly from its kind and its seed.
 
 pub mod damaged;
+pub mod deletions;
 pub mod edges;
 pub mod lines;
 pub mod lists;

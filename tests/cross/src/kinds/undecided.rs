@@ -29,6 +29,11 @@ pub fn run(twin: &mut Twin, random: &mut Random) {
     let mut refused = 0;
     while drive.year.engines() < length && refused < 3 {
         let step = plan.next(drive.random, &drive.year);
+        if let Move::Engine(results) = step
+            && drive.random.one_in(16)
+        {
+            drive.detour(results);
+        }
         if !drive.enter(step) {
             refused += 1;
         }

@@ -1,4 +1,5 @@
-//! Document 01, "The book": the 544 bytes, read and written.
+//! Document 01, "The book", with document 02, W-201: the 544 bytes, read and
+//! written.
 
 use super::rounding::MAX_RESULT;
 use super::setup::{Setup, check_standards};
@@ -11,14 +12,20 @@ pub(super) type Book = [u8; BOOK_BYTES];
 /// "24 number of events, 0 to 64"
 pub(super) const MAX_EVENTS: usize = 64;
 
+const VERSION_AT: usize = 3;
 const EVENTS_AT: usize = 24;
 const HEAD_BYTES: usize = 32;
 const SLOT_BYTES: usize = 8;
+
+/// The version of a setup, and that of a book with a deletion.
+const FIRST_VERSION: u8 = 1;
+const DELETION_VERSION: u8 = 2;
 
 const ENGINE: u8 = 1;
 const AMENDMENT: u8 = 2;
 const NEXT_PERIOD: u8 = 3;
 const DECLARATION: u8 = 4;
+const DELETION: u8 = 5;
 
 /// What a slot holds.
 pub(super) enum Event {
@@ -33,6 +40,8 @@ pub(super) enum Event {
     },
     NextPeriod,
     Declaration,
+    /// Of the newest engine; document 02 calls it a strike.
+    Deletion,
 }
 
 impl Event {
@@ -56,6 +65,7 @@ impl Event {
             }
             [NEXT_PERIOD, 0, 0, 0, 0, 0, 0, 0] => Some(Self::NextPeriod),
             [DECLARATION, 0, 0, 0, 0, 0, 0, 0] => Some(Self::Declaration),
+            [DELETION, 0, 0, 0, 0, 0, 0, 0] => Some(Self::Deletion),
             _ => None,
         }
     }
@@ -77,6 +87,7 @@ impl Event {
             }
             Self::NextPeriod => [NEXT_PERIOD, 0, 0, 0, 0, 0, 0, 0],
             Self::Declaration => [DECLARATION, 0, 0, 0, 0, 0, 0, 0],
+            Self::Deletion => [DELETION, 0, 0, 0, 0, 0, 0, 0],
         }
     }
 }
@@ -91,10 +102,11 @@ fn bytes(words: [u16; 2]) -> [u8; 4] {
     [a, b, c, d]
 }
 
-/// The setup in the first 32 bytes and the number of events, if those bytes
-/// are well formed. The range of the number of events is not yet checked.
-fn decode_head(head: &[u8; HEAD_BYTES]) -> Option<(Setup, u8)> {
-    let (&name, rest) = head.split_first_chunk::<8>()?;
+/// The version, the setup and the number of events in the first 32 bytes, if
+/// those bytes are well formed. The version and the range of the number of
+/// events are not yet checked.
+fn decode_head(head: &[u8; HEAD_BYTES]) -> Option<(u8, Setup, u8)> {
+    let (name, rest) = head.split_first_chunk::<8>()?;
     let (&[p0, p1, p2, p3, d0, d1], rest) = rest.split_first_chunk::<6>()?;
     let (&standards, rest) = rest.split_first_chunk::<4>()?;
     let (&kinds, rest) = rest.split_first_chunk::<2>()?;
@@ -102,10 +114,10 @@ fn decode_head(head: &[u8; HEAD_BYTES]) -> Option<(Setup, u8)> {
     let &[events, 0, 0, 0, 0, 0, 0, 0] = rest else {
         return None;
     };
-    // "PLT", version 1, zero.
-    if name != [b'P', b'L', b'T', 1, 0, 0, 0, 0] {
+    // "PLT", a version below 256, zero.
+    let &[b'P', b'L', b'T', version, 0, 0, 0, 0] = name else {
         return None;
-    }
+    };
     let setup = Setup::new(
         u32::from_le_bytes([p0, p1, p2, p3]),
         u16::from_le_bytes([d0, d1]).into(),
@@ -113,14 +125,14 @@ fn decode_head(head: &[u8; HEAD_BYTES]) -> Option<(Setup, u8)> {
         kinds.map(u32::from),
         words(factors).map(u32::from),
     );
-    Some((setup.ok()?, events))
+    Some((version, setup.ok()?, events))
 }
 
 /// The year of an accepted book: "exactly if its first 32 bytes are as above
 /// and its events could have been entered in that order", unused slots zero.
 pub(super) fn accept(book: &Book) -> Option<Year> {
     let (head, slots) = book.split_first_chunk::<HEAD_BYTES>()?;
-    let (setup, events) = decode_head(head)?;
+    let (version, setup, events) = decode_head(head)?;
     let (slots, _) = slots.as_chunks::<SLOT_BYTES>();
     let (used, unused) = slots.split_at_checked(events.into())?;
     if unused.iter().any(|slot| *slot != [0; SLOT_BYTES]) {
@@ -132,14 +144,24 @@ pub(super) fn accept(book: &Book) -> Option<Year> {
         year.check(&event).ok()?;
         year.enter(&event);
     }
-    Some(year)
+    (version == version_of(&year)).then_some(year)
+}
+
+/// "A version 2 book holds at least one strike", and version 1 holds none: it
+/// "becomes version 2 at its first strike".
+fn version_of(year: &Year) -> u8 {
+    if year.has_deletion() {
+        DELETION_VERSION
+    } else {
+        FIRST_VERSION
+    }
 }
 
 /// "Setup takes a buffer of any content and writes all of it."
 pub(super) fn write_setup(book: &mut Book, setup: &Setup) {
     book.fill(0);
     book[0..3].copy_from_slice(b"PLT");
-    book[3] = 1;
+    book[VERSION_AT] = FIRST_VERSION;
     book[8..12].copy_from_slice(&setup.volume.to_le_bytes());
     book[12..14].copy_from_slice(&setup.days.to_le_bytes());
     book[14..18].copy_from_slice(&bytes(setup.standards));
@@ -147,12 +169,16 @@ pub(super) fn write_setup(book: &mut Book, setup: &Setup) {
     book[20..24].copy_from_slice(&bytes(setup.factors));
 }
 
-/// "Each other entry writes its slot and byte 24." `place` is the number of
-/// events before it, below 64.
+/// "Each other entry writes its slot and byte 24", the first deletion also
+/// byte 3; at a later one that is 2 already. `place` is the number of events
+/// before it, below 64.
 pub(super) fn write_event(book: &mut Book, place: usize, event: &Event) {
     let (slots, _) = book[HEAD_BYTES..].as_chunks_mut::<SLOT_BYTES>();
     if let Some(slot) = slots.get_mut(place) {
         *slot = event.encode();
         book[EVENTS_AT] = place as u8 + 1;
+        if let Event::Deletion = event {
+            book[VERSION_AT] = DELETION_VERSION;
+        }
     }
 }

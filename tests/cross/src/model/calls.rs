@@ -1,4 +1,5 @@
-//! Document 01, "Refused calls, in checking order": the calls on a lent book.
+//! Document 01, "Refused calls, in checking order", and document 02, W-201: the
+//! calls on a lent book.
 //!
 //! Each call checks in the document's order and writes only once nothing is
 //! left to refuse.
@@ -65,6 +66,15 @@ pub fn declaration(book: &mut [u8]) -> Result<Status, u8> {
     let mut year = accepted(book)?;
     year.check_open()?;
     Ok(enter(book, &mut year, &Event::Declaration))
+}
+
+/// Enters the deletion of the newest engine. Refusals 3, 7, 8, 9, 17.
+pub fn deletion(book: &mut [u8]) -> Result<Status, u8> {
+    let book = whole_mut(book)?;
+    let mut year = accepted(book)?;
+    year.check_open()?;
+    year.check_deletion()?;
+    Ok(enter(book, &mut year, &Event::Deletion))
 }
 
 /// Reads the status. Refusals 3, 7.

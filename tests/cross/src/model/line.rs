@@ -1,8 +1,8 @@
-//! Document 01, "Key line": a line taken apart, its call made, the reply put
-//! together.
+//! Document 01, "Key line", with the key Z of document 02: a line taken apart,
+//! its call made, the reply put together.
 
 use super::Status;
-use super::calls::{amendment, declaration, engine, next_period, setup, strip};
+use super::calls::{amendment, declaration, deletion, engine, next_period, setup, strip};
 use super::refusal;
 
 /// "At most 64 bytes"
@@ -68,6 +68,7 @@ fn make_call(book: &mut [u8], letter: u8, numbers: &[u32]) -> Result<Status, u8>
         (b'A', &[hcnox, co]) => amendment(book, [hcnox, co]),
         (b'P', []) => next_period(book),
         (b'X', []) => declaration(book),
+        (b'Z', []) => deletion(book),
         _ => Err(refusal::LINE_FORM),
     }
 }

@@ -1,4 +1,5 @@
-//! Document 01, "Refused calls, in checking order": the numbers, by name.
+//! Document 01, "Refused calls, in checking order", and document 02: the
+//! numbers, by name.
 
 pub(super) const LINE_LENGTH: u8 = 1;
 pub(super) const LINE_FORM: u8 = 2;
@@ -16,3 +17,5 @@ pub(super) const RESULT: u8 = 13;
 pub(super) const ENGINES_FULL: u8 = 14;
 pub(super) const NEXT_PERIOD: u8 = 15;
 pub(super) const STRIP_LENGTH: u8 = 16;
+/// "checked after 9"
+pub(super) const NO_DELETION: u8 = 17;

@@ -1,5 +1,6 @@
-//! Document 01, "Periods" and "Verdict": the year a book holds, event by event,
-//! and the refusals that depend on it (8, 9, 10, 14 and 15).
+//! Document 01, "Periods" and "Verdict", with document 02, W-201: the year a
+//! book holds, event by event, and the refusals that depend on it (8, 9, 10, 14,
+//! 15 and 17).
 
 use std::num::NonZeroU64;
 
@@ -12,7 +13,22 @@ use super::work::{MAX_ENGINES, Pollutant};
 
 const HUNDRED: NonZeroU64 = NonZeroU64::new(100).unwrap();
 
-/// A setup and the events entered so far.
+/// An engine of the book.
+#[derive(Clone, Copy)]
+struct Engine {
+    number: u16,
+    results: [u16; 2],
+    /// The standards in force when it was entered.
+    standards: [u16; 2],
+}
+
+const NO_ENGINE: Engine = Engine {
+    number: 0,
+    results: [0; 2],
+    standards: [0; 2],
+};
+
+/// A setup and the events entered so far. Its engines are those that remain.
 pub(super) struct Year {
     pub(super) setup: Setup,
     /// The standards in force for the next engine.
@@ -22,9 +38,10 @@ pub(super) struct Year {
     period: u8,
     in_period: u8,
     declared: bool,
+    deletion: bool,
     pollutants: [Pollutant; 2],
-    /// Number and marks of each engine, in order; only the first n are set.
-    numbers: [u16; MAX_ENGINES],
+    /// The engines and their marks, in order; only the first n are in the book.
+    engines: [Engine; MAX_ENGINES],
     marks: [[u8; 2]; MAX_ENGINES],
 }
 
@@ -38,8 +55,9 @@ impl Year {
             period: 1,
             in_period: 0,
             declared: false,
+            deletion: false,
             pollutants: [Pollutant::new(); 2],
-            numbers: [0; MAX_ENGINES],
+            engines: [NO_ENGINE; MAX_ENGINES],
             marks: [[0; 2]; MAX_ENGINES],
         }
     }
@@ -49,15 +67,24 @@ impl Year {
         self.events
     }
 
+    /// Whether an engine has been deleted.
+    pub(super) fn has_deletion(&self) -> bool {
+        self.deletion
+    }
+
     /// n; at most 40.
-    fn engines(&self) -> usize {
+    fn n(&self) -> usize {
         self.pollutants[0].n as usize
+    }
+
+    fn engines(&self) -> &[Engine] {
+        self.engines.get(..self.n()).unwrap_or_default()
     }
 
     /// The marks of the strip, HC+NOx then CO for each engine.
     pub(super) fn strip(&self) -> &[u8] {
         self.marks
-            .get(..self.engines())
+            .get(..self.n())
             .unwrap_or_default()
             .as_flattened()
     }
@@ -83,7 +110,7 @@ impl Year {
             0
         } else if self.pollutants.iter().all(Pollutant::may_stop) {
             2
-        } else if self.engines() >= 30 {
+        } else if self.n() >= 30 {
             3
         } else if self.pollutants[0].n >= half_even(self.setup.volume.into(), HUNDRED) {
             4
@@ -113,16 +140,16 @@ impl Year {
 
     /// Refusal 10.
     pub(super) fn check_number(&self, number: u32) -> Result<u16, u8> {
-        let entered = self.numbers.get(..self.engines()).unwrap_or_default();
+        let in_book = |number| self.engines().iter().any(|engine| engine.number == number);
         match u16::try_from(number) {
-            Ok(number) if number != 0 && !entered.contains(&number) => Ok(number),
+            Ok(number) if number != 0 && !in_book(number) => Ok(number),
             _ => Err(refusal::ENGINE_NUMBER),
         }
     }
 
     /// Refusal 14.
     pub(super) fn check_room(&self) -> Result<(), u8> {
-        if self.engines() >= MAX_ENGINES {
+        if self.n() >= MAX_ENGINES {
             return Err(refusal::ENGINES_FULL);
         }
         Ok(())
@@ -136,6 +163,14 @@ impl Year {
         Ok(())
     }
 
+    /// Refusal 17. The newest engine is of the current period if any is.
+    pub(super) fn check_deletion(&self) -> Result<(), u8> {
+        if self.in_period == 0 {
+            return Err(refusal::NO_DELETION);
+        }
+        Ok(())
+    }
+
     /// Whether this event, in range by itself, could be entered next.
     pub(super) fn check(&self, event: &Event) -> Result<(), u8> {
         self.check_open()?;
@@ -145,6 +180,7 @@ impl Year {
                 self.check_room()
             }
             Event::NextPeriod => self.check_next_period(),
+            Event::Deletion => self.check_deletion(),
             Event::Amendment { .. } | Event::Declaration => Ok(()),
         }
     }
@@ -163,20 +199,43 @@ impl Year {
                 self.in_period = 0;
             }
             Event::Declaration => self.declared = true,
+            Event::Deletion => self.enter_deletion(),
         }
     }
 
     fn enter_engine(&mut self, results: [u16; 2], number: u16) {
-        let place = self.engines();
+        self.work(Engine {
+            number,
+            results,
+            standards: self.standards,
+        });
+        self.in_period += 1;
+    }
+
+    /// "All figures become those the book had without that engine": the others
+    /// are worked again, each under the standards of its entry.
+    fn enter_deletion(&mut self) {
+        let engines = self.engines;
+        let remaining = self.n() - 1;
+        self.pollutants = [Pollutant::new(); 2];
+        for engine in engines.into_iter().take(remaining) {
+            self.work(engine);
+        }
+        self.in_period -= 1;
+        self.deletion = true;
+    }
+
+    /// Works the next engine and keeps it with its marks.
+    fn work(&mut self, engine: Engine) {
+        let place = self.n();
         let [hcnox, co] = &mut self.pollutants;
-        hcnox.add(results[0].into(), self.standards[0].into());
-        co.add(results[1].into(), self.standards[1].into());
-        if let (Some(kept_number), Some(kept_marks)) =
-            (self.numbers.get_mut(place), self.marks.get_mut(place))
+        hcnox.add(engine.results[0].into(), engine.standards[0].into());
+        co.add(engine.results[1].into(), engine.standards[1].into());
+        if let (Some(kept_engine), Some(kept_marks)) =
+            (self.engines.get_mut(place), self.marks.get_mut(place))
         {
-            *kept_number = number;
+            *kept_engine = engine;
             *kept_marks = [hcnox.mark, co.mark];
         }
-        self.in_period += 1;
     }
 }

@@ -3,8 +3,8 @@
 use super::Twin;
 use crate::buffer::Buffer;
 use crate::counts::Column;
-use crate::journal;
-use crate::library::{self, FIGURES};
+use crate::journal::{self, VERSION_AT};
+use crate::library::{self, FIGURES, REPLY};
 use crate::model::{self, Status};
 use crate::outcome::{Call, Outcome};
 use crate::words::words_of;
@@ -24,6 +24,7 @@ impl Twin {
         let expected_length = model::key_line(self.model.part_mut(), line, front);
         let reply = expected.part()[..expected_length].to_vec();
         let refusal = refusal_of(&reply);
+        self.reply = lent.part()[..length.min(REPLY)].to_vec();
         let found = Outcome::bytes(length, length, lent);
         let wanted = Outcome::bytes(expected_length, expected_length, expected);
         self.compare(call, &found, &wanted);
@@ -34,7 +35,7 @@ impl Twin {
         }
         self.counts.call(Column::of_letter(letter), refusal);
         self.counts.reply(letter, &reply);
-        if b"SEAPX".contains(&letter) {
+        if b"SEAPXZ".contains(&letter) {
             self.look();
         }
         refusal
@@ -72,6 +73,7 @@ impl Twin {
         let wanted = figures(&answer, expected);
         self.compare(Call::Status, &Outcome::words(returned, lent), &wanted);
         self.expect_kept(Call::Status, &wanted);
+        self.count_version(answer.is_ok());
         self.count(Column::Status, &answer)
     }
 
@@ -90,6 +92,7 @@ impl Twin {
         let wanted = Outcome::bytes(refusal.into(), expected_written, expected);
         self.compare(Call::Marks, &found, &wanted);
         self.expect_kept(Call::Marks, &wanted);
+        self.count_version(answer.is_ok());
         self.counts.call(Column::Marks, refusal);
         self.counts.written(&marks);
         refusal
@@ -104,6 +107,13 @@ impl Twin {
             let needed = 2 * journal::engines(self.model.part());
             let more = self.noise.below(4);
             self.marks((needed + more).saturating_sub(1));
+        }
+    }
+
+    /// Counts a journal that was read, if it was accepted.
+    fn count_version(&mut self, accepted: bool) {
+        if accepted {
+            self.counts.version(self.kept[VERSION_AT]);
         }
     }
 

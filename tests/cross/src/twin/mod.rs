@@ -2,6 +2,7 @@
 
 mod calls;
 mod short;
+mod told;
 
 use std::panic;
 
@@ -21,6 +22,8 @@ pub struct Twin {
     kept: Vec<u8>,
     library: Buffer<u8>,
     model: Buffer<u8>,
+    /// The library's last reply.
+    reply: Vec<u8>,
 }
 
 impl Twin {
@@ -33,6 +36,7 @@ impl Twin {
             kept: Vec::new(),
             library: Buffer::new(vec![0; AFTER], 0),
             model: Buffer::new(vec![0; AFTER], 0),
+            reply: Vec::new(),
         };
         twin.lend(&[0; journal::LENGTH]);
         twin
@@ -126,13 +130,9 @@ impl Twin {
         }
     }
 
-    /// Leaves the case, reporting the difference.
+    /// Leaves the case, reporting the difference of the two sides.
     fn differ(&self, what: &'static str, call: Call, library: &Outcome, model: &Outcome) -> ! {
-        let mut lines = vec![
-            format!("call: {call}"),
-            format!("journal before, {} bytes:", self.kept.len()),
-            format!("  {}", hex(&self.kept)),
-        ];
+        let mut lines = Vec::new();
         for (side, outcome, journal) in [
             ("library", library, &self.library),
             ("model", model, &self.model),
@@ -142,6 +142,17 @@ impl Twin {
             lines.push(format!("  journal {}", hex(journal.part())));
             lines.push(format!("  around it {before} and {after}"));
         }
+        self.leave(what, call, &lines)
+    }
+
+    /// Leaves the case.
+    fn leave(&self, what: &'static str, call: Call, found: &[String]) -> ! {
+        let mut lines = vec![
+            format!("call: {call}"),
+            format!("journal before, {} bytes:", self.kept.len()),
+            format!("  {}", hex(&self.kept)),
+        ];
+        lines.extend_from_slice(found);
         panic::resume_unwind(Box::new(Difference {
             what,
             agreed: self.counts.calls,
