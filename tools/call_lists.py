@@ -17,10 +17,10 @@ It prints a line for each of S E A P X Q:
 and for L:
   refusal length |the array of 100| refusal |the part handed back| digest of the 100 bytes after that second call, digest of the 560 bytes.
 
-Each answer is computed twice: as the lowest of all refusals that hold, and from the plain year of the calls (their arguments alone).
+Each answer is computed twice: as the first, in checking order, of all refusals that hold, and from the plain year of the calls (their arguments alone).
 Each strip is computed a second time, from fractions, and compared with work at m = 2 and 8, which must be as demand 3 says.
 Counts of what occurred go to standard error; the script fails if a refusal, a verdict, a mark or a pair of refusals that can hold at once (of which the
-lower must be given) never occurred.
+first must be given) never occurred.
 """
 import copy
 import random
@@ -28,7 +28,7 @@ import sys
 from collections import Counter
 from itertools import combinations
 from damaged_journals import literal_marks
-from model import K, MAX_ENGINES, MAX_EVENTS, SIZE, Pollutant, Year, encode, factor_ok, read, result_of, self_check, standard_ok
+from model import K, MAX_ENGINES, MAX_EVENTS, SIZE, Pollutant, Year, encode, factor_ok, first_refusal, read, result_of, self_check, standard_ok
 
 ARRAY, STRIP = 560, 100
 MODULUS = 4294967291
@@ -131,7 +131,7 @@ def rows_that_hold(letter, args, lent, accepted, year):
         row(8, year.verdict() in (6, 7))
         row(9, len(year.events) == MAX_EVENTS)
         if letter == 'E':
-            row(10, number in year.numbers)
+            row(10, year.has(number))
             row(13, max(results_of(year.setup, hcnox, co)) > 20000)
         row(14, year.n() == MAX_ENGINES)
         row(15, year.period == year.periods or year.short())
@@ -192,10 +192,10 @@ class Lists:
             assert (year is None) == (self.plain is None)
             assert year is None or (year.setup, year.events) == (self.plain.setup, self.plain.events)
         held = rows_that_hold(letter, args, self.lent, year is not None, year or self.plain)
-        refusal = min(held, default=0)
+        refusal = first_refusal(held)
         self.refusals[letter, refusal] += 1
-        for higher in held - {refusal}:
-            self.pairs[letter, (refusal, higher)] += 1
+        for later in held - {refusal}:
+            self.pairs[letter, (refusal, later)] += 1
         if letter == 'L':
             self.strip(args[0], refusal, year)
             return refusal

@@ -14,7 +14,7 @@ import re
 import sys
 from collections import Counter
 from call_lists import call_of, event_of, rows_that_hold, strip_of
-from model import SIZE, Year, self_check
+from model import SIZE, Year, first_refusal, self_check
 
 LONGEST = 64
 FORM = re.compile(rb'[SEAPXL]( (0|[1-9][0-9]{0,7}))*')
@@ -65,7 +65,7 @@ class Calculator:
         args = arguments(letter, numbers)
         rows = rows_that_hold(letter, args, SIZE, self.year is not None, self.year)
         if rows:
-            return self.refused(min(rows))
+            return self.refused(first_refusal(rows))
         self.letters[letter] += 1
         if letter == 'L':
             strip = strip_of(self.year)
