@@ -20,7 +20,7 @@ from model import ORDER, SIZE, Year, first_refusal, self_check
 LONGEST = 64
 FORM = re.compile(rb'[SEAPXZL]( (0|[1-9][0-9]{0,7}))*')
 # The worked years of run_years in their order, which tests/years.sh compares.
-YEARS = ['undecided_mark', 'sample_size', 'amendment', 'failed', 'declared', 'first_engine', 'previous_limit', 'equal_limit', 'rounding']
+YEARS = ['undecided_mark', 'sample_size', 'amendment', 'failed', 'declared', 'first_engine', 'previous_limit', 'equal_limit', 'rounding', 'struck_engine']
 COUNTS = {'S': 8, 'A': 2, 'P': 0, 'X': 0, 'Z': 0, 'L': 0}
 
 # --------------------------------------------------------------- the replies
