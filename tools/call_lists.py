@@ -1,26 +1,27 @@
 #!/usr/bin/env python3
-"""Input and expected output of the test program call_lists, from document 01 alone (tools/model.py).
+"""Input and expected output of the test program call_lists, from document 01 and W-201 of document 02 alone (tools/model.py).
 
 Run from the repository's root, it writes crates/call_lists/stdin and crates/call_lists/stdout. It shares nothing with the calculator.
 
 The input has one call to a line: a letter, then decimal numbers, each after one space.
   # text                      a title, printed as it is
   B n                         the following calls are lent the first n bytes of an array of 560 (544 at the start)
-  Z                           all 560 bytes become zero, as they are at the start
+  N                           all 560 bytes become zero, as they are at the start
   W i v                       byte i becomes v
   S P D T1 T2 k1 f1 k2 f2     setup: volume, days, standards, then kind and factor of HC+NOx and of CO
   E number a b r.. r..        engine: a readings of HC+NOx, then b of CO
-  A t1 t2   P   X   Q         amendment, next period, declaration, status
+  A t1 t2   P   X   Z   Q     amendment, next period, declaration, strike, status
   L size                      the strip, into the first `size` bytes of an array of 100 that are all '.' before
-It prints a line for each of S E A P X Q:
+It prints a line for each of S E A P X Z Q:
   refusal n verdict, then S s e Clow Chigh Hlow Hhigh N mark of HC+NOx and of CO, then a digest of all 560 bytes;
 and for L:
   refusal length |the array of 100| refusal |the part handed back| digest of the 100 bytes after that second call, digest of the 560 bytes.
 
-Each answer is computed twice: as the lowest of all refusals that hold, and from the plain year of the calls (their arguments alone).
-Each strip is computed a second time, from fractions, and compared with work at m = 2 and 8, which must be as demand 3 says.
-Counts of what occurred go to standard error; the script fails if a refusal, a verdict, a mark or a pair of refusals that can hold at once (of which the
-lower must be given) never occurred.
+Each answer is computed twice: as the first, in checking order, of all refusals that hold, and from the plain year of the calls (their arguments alone).
+Each strip is computed a second time, from fractions, and compared with work at m = 2 and 8, which must be as demand 3 says. The status and strip of a book with
+strikes are computed a second time from its events without these and the engines that they removed; a strike right after its engine must give the status before.
+Counts of what occurred go to standard error; the script fails if a refusal, a verdict, a mark, a strike after an engine, an amendment or a strike, a book of
+either version or a pair of refusals that can hold at once (of which the first must be given) never occurred.
 """
 import copy
 import random
@@ -28,14 +29,15 @@ import sys
 from collections import Counter
 from itertools import combinations
 from damaged_journals import literal_marks
-from model import K, MAX_ENGINES, MAX_EVENTS, SIZE, Pollutant, Year, encode, factor_ok, read, result_of, self_check, standard_ok
+from model import K, MAX_ENGINES, MAX_EVENTS, SIZE, Pollutant, Year, encode, factor_ok, first_refusal, read, result_of, self_check, standard_ok, version
 
 ARRAY, STRIP = 560, 100
+MOST_LINES = 40000      # so many the test program reads
 MODULUS = 4294967291
 TOP = 4294967295        # the largest argument
-# The refusals that each call can give.
+# The refusals that each call can give, in checking order.
 ROWS = {'S': (3, 4, 5, 6), 'E': (3, 7, 8, 9, 10, 11, 12, 13, 14), 'A': (3, 5, 7, 8, 9), 'P': (3, 7, 8, 9, 15),
-        'X': (3, 7, 8, 9), 'Q': (3, 7), 'L': (3, 7, 16)}
+        'X': (3, 7, 8, 9), 'Z': (3, 7, 8, 9, 17), 'Q': (3, 7), 'L': (3, 7, 16)}
 
 # ------------------------------------------------------------- the answers
 
@@ -67,6 +69,21 @@ def year_of(setup, events):
 
 def strip_of(year):
     return ''.join(a + b for a, b in zip(year.h.marks, year.c.marks))
+
+
+def status_of(year):
+    return [year.n(), year.verdict()] + figures(year.h) + figures(year.c)
+
+
+def remaining(events):
+    """The events without the strikes and the engines that they removed."""
+    left = []
+    for ev in events:
+        if ev == ('Z',):
+            del left[max(i for i, old in enumerate(left) if old[0] == 'E')]
+        else:
+            left.append(ev)
+    return left
 
 
 class Finer(Year):
@@ -131,8 +148,9 @@ def rows_that_hold(letter, args, lent, accepted, year):
         row(8, year.verdict() in (6, 7))
         row(9, len(year.events) == MAX_EVENTS)
         if letter == 'E':
-            row(10, number in year.numbers)
+            row(10, year.has(number))
             row(13, max(results_of(year.setup, hcnox, co)) > 20000)
+        row(17, not year.can_strike())
         row(14, year.n() == MAX_ENGINES)
         row(15, year.period == year.periods or year.short())
         row(16, letter == 'L' and args[0] < 2 * year.n())
@@ -144,7 +162,7 @@ def event_of(letter, args, setup):
         number, hcnox, co = args
         count = len(hcnox) if len(hcnox) == len(co) else 0
         return ('E', number, count) + results_of(setup, hcnox, co)
-    return {'A': ('A',) + args, 'P': ('P',), 'X': ('D',)}[letter]
+    return {'A': ('A',) + args, 'P': ('P',), 'X': ('D',), 'Z': ('Z',)}[letter]
 
 
 class Lists:
@@ -156,6 +174,7 @@ class Lists:
         self.input, self.output = [], []
         self.refusals, self.verdicts, self.marks, self.pairs = Counter(), Counter(), Counter(), Counter()
         self.strips, self.settled = Counter(), Counter()
+        self.struck_after, self.versions = Counter(), Counter()
 
     def book(self):
         got = read(bytes(self.array[:self.lent]))
@@ -176,7 +195,7 @@ class Lists:
         if letter == 'B':
             self.lent, = numbers
             assert self.lent <= ARRAY
-        elif letter == 'Z':
+        elif letter == 'N':
             self.array[:] = bytes(ARRAY)
             self.plain = None
         elif letter == 'W':
@@ -192,18 +211,21 @@ class Lists:
             assert (year is None) == (self.plain is None)
             assert year is None or (year.setup, year.events) == (self.plain.setup, self.plain.events)
         held = rows_that_hold(letter, args, self.lent, year is not None, year or self.plain)
-        refusal = min(held, default=0)
+        refusal = first_refusal(held)
         self.refusals[letter, refusal] += 1
-        for higher in held - {refusal}:
-            self.pairs[letter, (refusal, higher)] += 1
+        if year is not None and letter != 'S':
+            self.versions[self.array[3], refusal == 0] += 1
+        for later in held - {refusal}:
+            self.pairs[letter, (refusal, later)] += 1
         if letter == 'L':
             self.strip(args[0], refusal, year)
             return refusal
         before = bytes(self.array)
-        if letter in 'EAPX' and year is not None:
+        if letter in 'EAPXZ' and year is not None:
             self.entered(letter, args, refusal, year)
         if refusal == 0:
             self.leave(letter, args, year)
+            self.wrote(letter, before)
         else:
             assert bytes(self.array) == before
         self.output.append(' '.join(str(x) for x in [refusal] + self.status(refusal) + [digest(self.array)]))
@@ -223,15 +245,36 @@ class Lists:
         self.plain = year
         self.array[:SIZE] = encode(year.setup, year.events)
 
+    def wrote(self, letter, before):
+        """An entry wrote its slot and byte 24, and the first strike byte 3; a status nothing."""
+        if letter in 'EAPXZ':
+            count = before[24]
+            named = set(range(32 + 8 * count, 40 + 8 * count)) | {24} | ({3} if letter == 'Z' and before[3] == 1 else set())
+            differ = {i for i in range(ARRAY) if self.array[i] != before[i]}
+            assert differ <= named and 24 in differ and 32 + 8 * count in differ and (3 in named) == (3 in differ)
+        elif letter == 'Q':
+            assert bytes(self.array) == before
+
     def status(self, refusal):
         if refusal:
             return REFUSED
         year = self.book()
-        verdict = year.verdict()
-        self.verdicts[verdict] += 1
+        self.verdicts[year.verdict()] += 1
         for p in (year.h, year.c):
             self.marks[figures(p)[-1]] += 1
-        return [year.n(), verdict] + figures(year.h) + figures(year.c)
+        if version(year.events) == 2:
+            self.as_if_never_entered(year)
+        return status_of(year)
+
+    def as_if_never_entered(self, year):
+        """The figures are those without the struck engines; right after an engine and its strike, those before both."""
+        rest = year_of(year.setup, remaining(year.events))
+        assert status_of(rest) == status_of(year) and strip_of(rest) == strip_of(year)
+        if year.events[-1] == ('Z',):
+            self.struck_after[year.events[-2][0]] += 1
+            if year.events[-2][0] == 'E':
+                earlier = year_of(year.setup, year.events[:-2])
+                assert status_of(earlier) == status_of(year) and strip_of(earlier) == strip_of(year)
 
     def strip(self, size, refusal, year):
         assert size <= STRIP
@@ -276,6 +319,9 @@ class Lists:
     def X(self, want=0):
         return self.put(want, 'X')
 
+    def Z(self, want=0):
+        return self.put(want, 'Z')
+
     def Q(self, want=0, verdict=None):
         refusal = self.put(want, 'Q')
         assert verdict is None or self.book().verdict() == verdict, self.book().verdict()
@@ -287,8 +333,8 @@ class Lists:
     def B(self, n):
         self.put(None, 'B', n)
 
-    def Z(self):
-        self.put(None, 'Z')
+    def N(self):
+        self.put(None, 'N')
 
     def W(self, i, v):
         self.put(None, 'W', i, v)
@@ -627,7 +673,7 @@ def good(o):
 
 def before_setup(o):
     o.title('calls before a setup', 'all bytes zero: 7, for an amendment after 5, for a wrong size 3')
-    o.Z()
+    o.N()
     o.Q(want=7), o.L(0, want=7), o.L(100, want=7)
     o.E(1, 1, 1, want=7), o.A(100, 100, want=7), o.P(want=7), o.X(want=7)
     o.A(15, 100, want=5)
@@ -974,7 +1020,7 @@ def by_hand(o):
             ((5000, 365, 800, 6100, 1, 1, 60000, 60000), [('E', 1, 1, 998, 5000), ('E', 2, 3, 1071, 5001)]),
             ((5000, 365, 800, 6100, 0, 0, 60000, 60000), [('E', 9, 2, 0, 59), ('E', 2, 1, 1, 7), ('P',), ('A', 10, 20000)]),
             ((99999999, 1, 20000, 10, 0, 1, 60000, 59999), [('A', 20000, 20000), ('E', 300, 1, 19999, 20000), ('E', 301, 3, 59, 1)])):
-        o.Z()
+        o.N()
         for at, b in enumerate(encode(setup, events)):
             if b:
                 o.W(at, b)
@@ -1001,7 +1047,7 @@ def by_hand(o):
             ((5000, 365, 1000, 6100, 0, 0, 0, 0), [('A', 1005, 10)]),
             ((5000, 365, 1000, 6100, 0, 0, 0, 0), [('A', 10, 20010)]),
             ((5000, 365, 1000, 6100, 0, 0, 0, 0), e)):
-        o.Z()
+        o.N()
         for at, b in enumerate(encode(setup, events)):
             if b:
                 o.W(at, b)
@@ -1025,6 +1071,251 @@ def mid_year(o):
         o.Q(verdict=0), o.L(0)
         o.engines(1, [900] * 2, 3000)
         o.Q(), o.L(4)
+
+# -------------------------------------------------- strikes (document 02, W-201)
+
+
+def shown(o, verdict=None):
+    """Status and strip."""
+    o.Q(verdict=verdict), o.L(80)
+
+
+def strikes(o):
+    o.title('strikes', 'the whole run of document 01, struck back to its start; with no engine 17')
+    o.S(5000, 365, 800, 6100)
+    o.Z(want=17)
+    o.engines(1, [998, 1071, 900])
+    shown(o, verdict=1)
+    for n, verdict in ((2, 1), (1, 0), (0, 0)):
+        o.Z(), shown(o, verdict), o.L(2 * n)
+    o.Z(want=17), shown(o, verdict=0)
+    o.title('at once after the engine, on a year of no, one, two and more engines', 'each figure, mark and verdict is as before; the same number comes again')
+    o.S(5000, 365, 800, 6100, 1, 1050, 0, 25)
+    for j, x in enumerate((998, 1071, 850, 700, 640)):
+        o.Q(), o.L(80)
+        o.E(j + 1, [1000 * x, 20000], [5000000, 0]), o.Z(), o.Q(), o.L(80)
+        o.E(j + 1, 900 * x, 4000000 + 100000 * j)
+    o.title('twice, and three times', 'engines 3, 2 and 1; their numbers are free again, in another order')
+    o.S(5000, 365, 1000, 6100)
+    o.engines(1, [900, 950, 910], [5000, 5100, 5050])
+    o.Z(), o.Z(), shown(o, verdict=0)
+    o.E(1, 1, 1, want=10), o.E(3, 910000, 5050000), o.E(2, 950000, 5100000), o.E(3, 1, 1, want=10)
+    shown(o, verdict=2)
+    o.Z(), o.Z(), o.Z(), o.Z(want=17), shown(o, verdict=0)
+    o.E(1, 1, 1), o.Z(), o.E(1, 2, 2), o.Z(), o.E(65535, 3, 3), o.Z(), o.E(65535, 4, 4)
+    shown(o, verdict=0)
+
+
+def strikes_and_amendments(o):
+    o.title('an amendment between engine and strike is kept', 'and so is one before; the next engine is under the newest')
+    for amended, over in ((700, 'O'), (1000, 'U'), (1500, 'U')):
+        o.S(1500, 365, 1000, 6100)
+        o.engines(1, [900, 900])
+        o.A(amended, 6000)
+        shown(o)
+        o.Z(), shown(o, verdict=0)
+        o.engines(2, [900])
+        assert o.book().h.marks == '-' + over
+        shown(o), o.Z(), shown(o, verdict=0), o.A(20000, 10), o.Z(), o.Z(want=17), o.engines(1, [900], [20]), shown(o)
+    o.title('T of G and N is that of the newest remaining engine', 'amended, a third engine, struck: verdict 2 again; under the amended standard the next engine')
+    for t in (10, 990, 20000):
+        o.S(1500, 100, 1000, 6100)
+        o.engines(1, [800, 800])
+        o.Q(verdict=2)
+        o.A(t, t), o.Q(verdict=2)
+        o.E(3, 800000, 5000000), shown(o), o.Z(), shown(o, verdict=2)
+        assert o.book().h.G() == -400 and o.book().c.G() == -2200
+        o.E(3, 900000, 5000000), shown(o)
+        assert o.book().h.G() == 2500 - 3 * t
+
+
+def strikes_in_periods(o):
+    o.title('only engines of the current period', 'after a next period 17; short again by a strike, and then the next period is refused')
+    o.S(1600, 301, 1000, 6100)
+    o.Z(want=17), o.P(want=15)
+    o.engines(1, [801, 802, 803], [5001, 5002, 5003])
+    o.Z(), o.P(), o.Z(want=17), o.Q(verdict=0)
+    o.S(1600, 301, 1000, 6100)
+    o.engines(1, [801, 802, 803], [5001, 5002, 5003])
+    o.Z(), o.Z(), o.P(want=15), shown(o, verdict=0)
+    o.engines(2, [804])
+    for number in (3, 4, 5):                # one in each later period
+        o.P(), o.Z(want=17), o.P(want=15), shown(o, verdict=0)
+        o.engines(number, [800 + number]), o.Z(), o.Z(want=17), o.P(want=15), shown(o, verdict=0)
+        o.engines(number, [810 + number]), o.engines(10 + number, [820]), o.Z(), shown(o, verdict=2)
+    o.P(want=15), o.X(), o.Z(want=8), shown(o, verdict=7)
+
+
+def verdicts_struck(o):
+    o.title('verdicts that a strike takes back', '2, 3, 4 and 5')
+    o.S(1500, 365, 1000, 6100)
+    o.engines(1, [800, 800]), o.Q(verdict=2), o.Z(), shown(o, verdict=0)
+    o.S(99999999, 365, 1000, 6100)
+    o.engines(1, [900, 1100] * 15, [6000, 6200] * 15)
+    o.Q(verdict=3), o.Z(), shown(o, verdict=1), o.engines(30, [1090]), o.Q(verdict=3), o.P(), o.Q(verdict=0), o.Z(want=17), o.engines(31, [900]), o.Q(verdict=3)
+    o.Z(), shown(o, verdict=0)
+    o.S(2850, 365, 1000, 6100)
+    o.engines(1, [900, 1100] * 14, [6000, 6200] * 14)
+    o.Q(verdict=4), o.Z(), shown(o, verdict=1), o.Z(), shown(o, verdict=1)
+    o.S(5000, 365, 800, 6100)
+    o.engines(1, [998, 1071, 926])
+    o.Q(verdict=5), o.Z(), shown(o, verdict=1), o.engines(3, [926]), o.Q(verdict=5), o.engines(4, [100]), o.Z(), o.Q(verdict=5), o.Z(), shown(o, verdict=1)
+    o.engines(3, [100]), shown(o, verdict=1)
+    o.title("'O' at an engine that was struck, then 'O' in its place: no failure; a second 'O' is one, and cannot be struck")
+    for h, c in ((500, 5000), (50, 7000), (500, 7000)):
+        o.S(5000, 365, 100, 6100)
+        o.engines(1, [h] * 2, c)
+        o.Z(), o.engines(2, [h], c), o.Z(), o.engines(3, [h], c)
+        shown(o, verdict=1)
+        o.engines(4, [h], c)
+        o.Q(verdict=6), o.Z(want=8), closed(o), o.Z(want=8), shown(o, verdict=6)
+    o.title('declared with no engine, with one struck, with one that remains, after a next period')
+    for calls in ('', 'EZ', 'EEZ', 'EEP'):
+        o.S(5000, 365, 1000, 6100)
+        for number, call in enumerate(calls):
+            o.engines(number + 1, [900]) if call == 'E' else o.Z() if call == 'Z' else o.P()
+        o.X(), o.Z(want=8), closed(o), shown(o, verdict=7)
+
+
+def full_of_strikes(o):
+    o.title('forty engines remain: 14', 'after a strike a forty-first is entered in its place')
+    o.S(99999999, 366, 20000, 20000)
+    for j in range(40):
+        o.E(j + 1, 20000000 * (j % 2), 20000000 * (1 - j % 2))
+    o.E(41, 1, 1, want=14), o.E(40, 1, 1, want=10), shown(o)
+    o.Z(), shown(o), o.E(39, 1, 1, want=10), o.E(41, 20000000, 20000000), shown(o), o.E(40, 1, 1, want=14), o.E(42, 1, 1, want=14)
+    o.A(10, 10), o.Z(), o.E(40, 0, 0), o.E(41, 1, 1, want=14), o.P(), o.Z(want=17), o.E(41, 1, 1, want=14), shown(o, verdict=0)
+    o.title('strikes of all forty', 'as long as there are slots')
+    o.S(99999999, 366, 20000, 20000)
+    for j in range(40):
+        o.E(j + 1, 20000000 * (j % 2), 20000000 * (1 - j % 2))
+    for j in range(24):
+        o.Z()
+    shown(o), o.Z(want=9), o.E(50, 1, 1, want=9), o.L(32), o.L(31, want=16)
+    for spare in (61, 62, 63):
+        o.title('one engine and %d amendments, then strikes' % spare, 'slots are not given back: the strike that is the 64th event is the last')
+        o.S(5000, 365, 1000, 6100)
+        o.engines(1, [900])
+        for j in range(spare):
+            o.A(10 * j + 10, 6100)
+        o.Z(want=9 if spare == 63 else 0)
+        o.Q(verdict=0), o.L(0, want=16 if spare == 63 else 0)
+        o.Z(want=17 if spare == 61 else 9), o.E(1, 1, 1, want=0 if spare == 61 else 9), o.Z(want=9), o.X(want=9), shown(o, verdict=0)
+    o.title('64 amendments and no engine: 9 comes before 17')
+    o.S(5000, 365, 1000, 6100)
+    for j in range(64):
+        o.A(1000, 6100)
+    o.Z(want=9), shown(o, verdict=0)
+    o.title('a year of 32 engines, each struck at once', 'no slot is left, and no engine')
+    o.S(5000, 365, 1000, 6100)
+    for j in range(32):
+        o.E(j % 3 + 1, 1000000 + 1000 * j, 6000000), o.Z()
+    o.Z(want=9), o.E(1, 1, 1, want=9), o.A(10, 10, want=9), o.P(want=9), o.X(want=9), shown(o, verdict=0)
+    o.title('a year of 31 such engines, an engine and a declaration')
+    o.S(5000, 365, 1000, 6100)
+    for j in range(31):
+        o.E(7, 1000000 + 1000 * j, 6000000), o.Z()
+    o.E(7, 5000, 5000), shown(o), o.X(), o.Z(want=8), shown(o, verdict=7)
+    o.title('a new setup over a year with strikes', 'it is version 1 again, and its first strike makes it version 2')
+    o.S(5000, 365, 1000, 6100)
+    o.Z(want=17), o.engines(1, [900]), o.Q(), o.Z(), o.engines(1, [910]), o.A(990, 6100), o.Z(), shown(o, verdict=0)
+    o.S(5000, 365, 1000, 6105, want=5), shown(o, verdict=0)
+    o.S(5000, 365, 1000, 6100), shown(o, verdict=0)
+
+
+def strikes_refused(o):
+    o.title('calls before a setup', 'all bytes zero: a strike is refused by 7')
+    o.N()
+    o.Z(want=7)
+    o.title('strikes with two and more refusals at once', 'the buffer of another size, the book damaged, closed, without a slot, without an engine to strike')
+    for flags in [c for size in range(4) for c in combinations((8, 9, 17), size)] + [(8, 'failed'), (8, 9, 'failed')]:
+        o.title('a strike where these hold: %s' % (', '.join(map(str, flags)) or 'none'))
+        struck_state(o, flags)
+        for damaged, lent in ((False, 543), (True, 544), (True, 545), (True, 0), (False, 544)):
+            if damaged:
+                o.W(5, 1)
+            o.B(lent)
+            o.Z(want=3 if lent != 544 else 7 if damaged else flags[0] if flags else 0)
+            if damaged:
+                o.W(5, 0)
+            o.B(544)
+        shown(o)
+
+
+def struck_state(o, flags):
+    """A year with a strike, in which just the wanted rows among 8, 9 and 17 hold for another one; 8 by a declaration or by a failure."""
+    failed = 'failed' in flags
+    o.S(99999999, 365, 100, 6100)
+    o.engines(1, [90, 90, 500])
+    o.Z()
+    if 17 in flags:
+        o.P()
+    if 9 in flags:
+        for j in range(60 - (17 in flags) - (3 if failed else 8 in flags)):
+            o.A(100, 10 * j + 6100)
+    if failed:
+        o.A(10, 6100), o.engines(3, [90, 90])
+    elif 8 in flags:
+        o.X()
+    year = o.book()
+    assert (len(year.events) == MAX_EVENTS) == (9 in flags) and year.can_strike() == (17 not in flags)
+    assert year.closed() == (8 in flags) and (year.verdict() == 6) == failed
+
+
+def put_book(o, book):
+    """The bytes of a book, over zeros."""
+    o.N()
+    for at, b in enumerate(book):
+        if b:
+            o.W(at, b)
+
+
+def struck_books(o):
+    o.title('damaged books with strikes', 'every version; kinds about 5; bytes of a strike that have to be zero; then changed back')
+    o.S(2000, 301, 1000, 6100, 1, 1050, 0, 25)
+    o.engines(1, [760, 0]), o.E(3, [1, 2, 3], [4, 5, 6]), o.A(990, 6100), o.Z(), o.E(4, 1, 1), o.Z(), o.P(), o.engines(3, [700]), o.Z(), o.engines(3, [710]), o.P()
+    whole = bytes(o.array)
+    assert whole[3] == 2 and [whole[32 + 8 * j] for j in range(whole[24])] == [1, 1, 1, 2, 5, 1, 5, 3, 1, 5, 1, 3]
+    shown(o, verdict=0)
+    changes = [((3, v),) for v in (0, 1, 3, 4, 5, 255)] + [((4, v),) for v in (1, 2, 255)] + [((3, 0), (4, 2)), ((3, 1), (4, 1))]
+    for at in (64, 80, 104):                # the slots of the strikes
+        changes += [((at, kind),) for kind in (0, 1, 2, 3, 4, 6, 255)] + [((at + i, v),) for i in range(1, 8) for v in (1, 255)]
+    changes += [((at, 5),) for at in (32, 40, 48, 56, 72, 88, 96, 112, 120)] + [((24, v),) for v in (0, 4, 5, 11, 13, 64, 65)]
+    for turn, change in enumerate(changes):
+        for at, value in change:
+            o.W(at, value)
+        refusal = o.Q(want=None)
+        if refusal:
+            o.put(7, *(('Z',), ('L', 100), ('E', 9, 1, 1, 1, 1), ('A', 10, 10), ('P',), ('X',))[turn % 6])
+        for at, _ in change:
+            o.W(at, whole[at])
+    shown(o, verdict=0)
+    o.title('an accepted book of version 1 whose version becomes 2, and a strike of it')
+    o.S(5000, 365, 1000, 6100)
+    o.engines(1, [900, 910])
+    o.W(3, 2), o.Q(want=7), o.Z(want=7), o.L(80, want=7), o.W(3, 1), o.Z(), o.W(3, 1), o.Q(want=7), o.Z(want=7), o.W(3, 2), o.Z(), shown(o, verdict=0)
+
+
+def struck_by_hand(o):
+    o.title('accepted books with strikes that no list of calls leaves', 'results that no reading yields; entries and strikes are added to them')
+    z = ('Z',)
+    for setup, events in (
+            ((5000, 365, 800, 6100, 1, 1, 60000, 60000), [('E', 1, 1, 998, 5000), ('E', 2, 3, 1071, 5001), z]),
+            ((5000, 365, 800, 6100, 0, 0, 60000, 60000), [('E', 9, 2, 0, 59), ('E', 2, 1, 20000, 7), ('A', 20000, 20), z, ('E', 9999, 1, 7, 1), ('P',)]),
+            ((99999999, 1, 20000, 10, 0, 1, 60000, 59999), [('E', 300, 1, 19999, 20000), z, ('E', 300, 3, 59, 1)])):
+        put_book(o, encode(setup, events))
+        shown(o)
+        o.E(1000, [0, 1000], [0, 0]), o.A(1000, 1000), o.E(1001, 1, 1), o.Z(), o.E(1000, 1, 1, want=10), o.Z(), o.Z(want=None), o.E(1000, 1, 1), shown(o)
+    o.title('books whose strikes could not have been entered', 'and what comes after a strike: a number that remains, a period too early, a forty-first')
+    e = [('E', j, 1, 800, 5000) for j in range(1, 43)]
+    year = (5000, 365, 1000, 6100, 0, 0, 0, 0)
+    for setup, events in (
+            (year, [z]), (year, [('A', 10, 10), z]), (year, [e[0], z, z]), (year, [e[0], e[1], ('P',), z]), (year, [e[0], e[1], ('P',), e[2], z, z]),
+            (year, [e[0], ('D',), z]), (year, [('D',), z]), ((5000, 365, 100, 6100, 0, 0, 0, 0), e[:3] + [z]), (year, [e[0], e[1], z, ('P',)]),
+            (year, [e[0], e[1], ('P',), e[2], z, ('P',)]), (year, [e[0], e[1], z, e[0]]), (year, e[:41] + [z]), (year, e[:40] + [z, e[40], e[41]]),
+            (year, [('E', 1, 1, 20001, 1), z]), (year, [('E', 0, 1, 1, 1), z]), (year, [('E', 1, 4, 1, 1), z])):
+        put_book(o, encode(setup, events))
+        o.Q(want=7), o.L(100, want=7), o.E(50, 1, 1, want=7), o.Z(want=7)
 
 # ----------------------------------------------------- lists by a fixed seed
 
@@ -1151,13 +1442,14 @@ def random_trouble(o, rng):
     o.W(at, kept)
 
 
-def random_list(o, rng, index):
+def random_list(o, rng, index, strikes=0):
+    """`strikes` is the chance of a strike in place of another call."""
     styles = [rng.choice(STYLES), rng.choice(('pass', rng.choice(STYLES)))]
     if rng.random() < 0.5:
         styles.reverse()
     o.title('list %d' % index)
     if index % 5 == 0:
-        o.Z()
+        o.N()
     o.S(*random_setup(rng, styles), want=None)
     length = rng.choice((4, 8, 8, 12, 12, 16, 24)) if index % 20 else 70
     number = rng.choice((1, 1, 100, 65500))
@@ -1166,7 +1458,9 @@ def random_list(o, rng, index):
         pick = rng.random()
         if year.closed() and rng.random() < 0.5:
             break
-        if pick < 0.72:
+        if strikes and rng.random() < strikes:
+            number = random_strikes(o, rng, year, number)
+        elif pick < 0.72:
             random_engine(o, rng, styles, number)
             number += rng.choice((1, 1, 1, 1, 1, 1, 1, 0, 2))
         elif pick < 0.78:
@@ -1186,11 +1480,30 @@ def random_list(o, rng, index):
     o.Q()
 
 
+def random_strikes(o, rng, year, number):
+    """One strike or more; returns the number for the next engine, which is at times that of an engine just struck, or of one that remains."""
+    for _ in range(rng.choice((1, 1, 1, 2, 3))):
+        newest = year.engines[-1].number if year.n() else number
+        if o.Z(want=None) == 0 and rng.random() < 0.4:
+            number = newest
+        year = o.book()
+    if year.n() and rng.random() < 0.1:
+        number = year.engines[-1].number
+    return number
+
+
 def random_lists(o):
     o.title('lists by a fixed seed', 'refused calls among them; strip and status at the end of each')
     rng = random.Random(1054)
     for index in range(1, 401):
         random_list(o, rng, index)
+
+
+def struck_lists(o):
+    o.title('lists by another seed, with strikes')
+    rng = random.Random(305)
+    for index in range(401, 551):
+        random_list(o, rng, index, rng.choice((0.1, 0.2, 0.2, 0.35)))
 
 # -------------------------------------------------------------- the counts
 
@@ -1213,7 +1526,9 @@ def counts(o):
         assert all(pairs.values())
     assert sum(o.refusals[letter, row] for letter, rows in ROWS.items() for row in (0,) + rows) == sum(by_number.values())
     tell('verdicts', dict(sorted(o.verdicts.items())))
-    assert set(o.verdicts) == set(range(8)) and set(by_number) == {0} | set(range(3, 17))
+    assert set(o.verdicts) == set(range(8)) and set(by_number) == {0} | set(range(3, 18))
+    tell('events before a newest strike', dict(o.struck_after), 'calls on books of each version, accepted or not', dict(o.versions))
+    assert set(o.struck_after) == set('EAZ') and set(o.versions) == {(1, True), (1, False), (2, True), (2, False)}
     tell('newest marks of a status', dict(o.marks), 'marks of strips', dict(o.strips))
     assert set(o.marks) == set(o.strips) == set('-OU?')
     tell('open marks that work at m settles', dict(o.settled))
@@ -1223,11 +1538,14 @@ def counts(o):
 def main():
     self_check()
     o = Lists()
-    for section in (whole_run, starred, slips, verdicts, before_setup, alone, at_once, ranges, largest, damaged, by_hand, mid_year, random_lists):
+    for section in (whole_run, starred, slips, verdicts, before_setup, alone, at_once, ranges, largest, damaged, by_hand, mid_year, random_lists,
+                    strikes, strikes_and_amendments, strikes_in_periods, verdicts_struck, full_of_strikes, strikes_refused, struck_books, struck_by_hand,
+                    struck_lists):
         at = len(o.input)
         section(o)
-        print('%-13s %5d lines' % (section.__name__, len(o.input) - at), file=sys.stderr)
+        print('%-22s %5d lines' % (section.__name__, len(o.input) - at), file=sys.stderr)
     counts(o)
+    assert len(o.input) <= MOST_LINES
     home = sys.argv[1] if len(sys.argv) > 1 else 'crates/call_lists'
     for name, lines in (('stdin', o.input), ('stdout', o.output)):
         text = '\n'.join(lines) + '\n'

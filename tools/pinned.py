@@ -18,8 +18,8 @@ import tempfile
 
 ROOT = os.path.dirname(os.path.dirname(os.path.abspath(__file__)))
 NEIGHBOURS = [("leb", "ltb"), ("leb", "eqb"), ("ltb", "eqb"), ("&&", "||"), (".hcnox", ".co"), ("Hcnox", "Co"), ("true", "false"), (".low", ".high"), (".volume", ".days"), (".kind", ".value"),
-              (".floor", ".inexact"), (".cumsum", ".limit"), (".first", ".second"), (".second", ".third"), ("NextPeriod", "Declaration"),
-              ("BeginPeriod", "Declare"), ("Over", "Under"), ("Under", "Undecided"), ("Over", "Undecided"), ("Unmarked", "Under"),
+              (".floor", ".inexact"), (".cumsum", ".limit"), (".first", ".second"), (".second", ".third"), ("NextPeriod", "Declaration"), ("Declaration", "Deletion"),
+              ("BeginPeriod", "Declare"), ("Declare", "Delete"), ("Over", "Under"), ("Under", "Undecided"), ("Over", "Undecided"), ("Unmarked", "Under"),
               (" + ", " - "), (" * ", " + "), (" / ", " % ")]
 
 

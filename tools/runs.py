@@ -1,12 +1,13 @@
 #!/usr/bin/env python3
-"""Input and expected output of the calculator's tested runs, from document 01 alone (tools/model.py, and the table of refusals in tools/call_lists.py).
+"""Input and expected output of the calculator's tested runs, from document 01 and W-201 of document 02 alone (tools/model.py, and the table of refusals in
+tools/call_lists.py).
 
 Run from the repository's root, it writes crates/NAME/stdin and crates/NAME/stdout of each run, and examples/YEAR.replies.txt of each worked year; it shares
 nothing with the calculator.
   calculator   the worked year examples/year.txt, as it stands
   run_years    the other worked years of examples/, one after another
   run_lines    lines that are not of the form, too long or of any bytes, before a setup, in mid-year and after a second setup; the calls of
-               crates/call_lists/stdin as key lines, with lines damaged by a fixed seed among them; no newline at the end
+               crates/call_lists/stdin as key lines, with lines damaged by a fixed seed among them; years with strikes; no newline at the end
 Counts of what was met go to standard error; the script fails if a letter, a refusal that a key line can meet, a verdict or a mark was never met.
 """
 import random
@@ -14,13 +15,13 @@ import re
 import sys
 from collections import Counter
 from call_lists import call_of, event_of, rows_that_hold, strip_of
-from model import SIZE, Year, self_check
+from model import ORDER, SIZE, Year, first_refusal, self_check
 
 LONGEST = 64
-FORM = re.compile(rb'[SEAPXL]( (0|[1-9][0-9]{0,7}))*')
+FORM = re.compile(rb'[SEAPXZL]( (0|[1-9][0-9]{0,7}))*')
 # The worked years of run_years in their order, which tests/years.sh compares.
-YEARS = ['undecided_mark', 'sample_size', 'amendment', 'failed', 'declared', 'first_engine', 'previous_limit', 'equal_limit', 'rounding']
-COUNTS = {'S': 8, 'A': 2, 'P': 0, 'X': 0, 'L': 0}
+YEARS = ['undecided_mark', 'sample_size', 'amendment', 'failed', 'declared', 'first_engine', 'previous_limit', 'equal_limit', 'rounding', 'struck_engine']
+COUNTS = {'S': 8, 'A': 2, 'P': 0, 'X': 0, 'Z': 0, 'L': 0}
 
 # --------------------------------------------------------------- the replies
 
@@ -65,7 +66,7 @@ class Calculator:
         args = arguments(letter, numbers)
         rows = rows_that_hold(letter, args, SIZE, self.year is not None, self.year)
         if rows:
-            return self.refused(min(rows))
+            return self.refused(first_refusal(rows))
         self.letters[letter] += 1
         if letter == 'L':
             strip = strip_of(self.year)
@@ -104,7 +105,8 @@ MALFORMED = [
     b'S', b'S 5000', b'S 5000 365 800 6100 0 0 0', b'S 5000 365 800 6100 0 0 0 0 0', b'S 5000 365 800 6100 0 0 0 0 ', b's 5000 365 800 6100 0 0 0 0',
     b'S 05000 365 800 6100 0 0 0 0', b'S 100000000 365 800 6100 0 0 0 0', b'S 5000 365 800 6100 0 0 0 00', b'S 5000 365 800 6100 0 0  0 0',
     b'E' + b' 1' * 2, b'E' + b' 1' * 18, b'E' + b' 1' * 30, b'A' + b' 1' * 31, b'E', b'E ', b'E 9 1', b'E 9 1 1 1', b'E 9 1 1 1 1 1', b'E 9 1 1 1 1 1 1 1', b'E 9 1 1 ', b'E 9 01 1', b'E 9 1 1\r', b'E 9 100000000 1', b'E 09 1 1', b'e 9 1 1',
-    b'9', b'9 1 1', b'OK', b'NO 2', b'help', b'?', b'#', b'Q', b'T 9 1 1', b'Z', b'H 800', b'C 6100', b'M 5000 365 800 0 0', b'R 800',
+    b'9', b'9 1 1', b'OK', b'NO 2', b'help', b'?', b'#', b'Q', b'T 9 1 1', b'H 800', b'C 6100', b'M 5000 365 800 0 0', b'R 800',
+    b'Z 1', b'Z 0', b'Z ', b' Z', b'z', b'ZZ', b'Z\r', b'Z\t', b'Z\0', b'\0Z', b'Z\xff', b'\xda', b'Z1', b'Z Z', b'Z 1 1', b'Y', b'[', b'EZ', b'Z' + b' ' * 63,
 ]
 
 # Of the form, and refused by the call, before a setup or in the year below.
@@ -139,13 +141,25 @@ def any_lines():
     lines += [b'X'] + bad + [b'E 4 1 1', b'A 800 6100', b'P', b'X', b'L', SETUP, b'A 800 6100', b'L']
     return b'\n'.join(lines)
 
+
+def struck_lines():
+    """Strikes among lines of any bytes: with no engine; after each of three engines; of what remains; after a next period and after a declaration; after a failure."""
+    engines = [b'E 1 998000 5000000', b'E 2 1071000 5000000', b'E 3 998400 998600 5000499 5000501']
+    lines = [SETUP, b'Z', b'L']
+    for engine in engines:
+        lines += [engine, b'Z', b'L', engine]
+    lines += MALFORMED + [b'L', b'Z'] + REFUSED + [b'Z' + b' ' * 64, b'Z' * 65, b'L', b'A 700 6000', b'Z', b'L', b'P', engines[2], engines[2], b'P', b'Z', b'L']
+    lines += [b'E 4 800000 5000000', b'Z', b'Z', b'P', b'E 4 700000 5000000', b'L', b'X', b'Z', b'L']
+    lines += [b'S 1500 365 100 6100 0 0 0 0', b'E 1 500000 5000000', b'E 2 500000 5000000', b'Z', b'E 2 500000 5000000', b'E 3 500000 5000000', b'Z', b'L']
+    return b'\n'.join(lines)
+
 # ---------------------------------------------------------- lists of calls
 
 
 def keyed(line):
     """A call of tools/call_lists.py as a key line; nothing for what is no key."""
     words = line.split(' ')
-    if words[0] in 'PXL':
+    if words[0] in 'PXZL':
         return words[0]
     if words[0] in 'SA':
         return line
@@ -173,7 +187,7 @@ def sessions():
         if rng.random() < 0.08:
             lines.append(damaged(rng, key))
         lines.append(key)
-    return b'\n'.join(lines + [b'L' * 65, SETUP, b'L'])
+    return b'\n'.join(lines + [struck_lines(), b'L' * 65, SETUP, b'L'])
 
 
 # --------------------------------------------------------------------- main
@@ -211,7 +225,7 @@ def main():
     for title, counts in zip(('letters accepted', 'refusals', 'verdicts', 'marks'), met):
         print(title, dict(sorted(counts.items())), file=sys.stderr)
     # 3 and 16 cannot be met by a key line: the book has its size, and L lends room for forty engines
-    assert set(met[0]) == set('SEAPXL') and set(met[1]) == set(range(1, 16)) - {3} and set(met[2]) == set(range(8)) and set(met[3]) == set('-OU?')
+    assert set(met[0]) == set('SEAPXZL') and set(met[1]) == set(ORDER) - {3, 16} and set(met[2]) == set(range(8)) and set(met[3]) == set('-OU?')
     with open('crates/calculator/stdout') as f:
         assert f.read() == 'OK 0 0 -- - -\nOK 1 0 -- - -\nOK 2 1 ?U 30 10\nOK 3 1 UU 28 10\nOK --?UUU\nOK 3 7 UU 28 10\nNO 8\n'
 

@@ -17,10 +17,8 @@ SLIPS = {
     # carries an amended standard back over the engines already tested
     'amendment_backwards': [('            self.standards = (ev[1], ev[2])\n',
                              '            self.standards = (ev[1], ev[2])\n'
-                             '            self.h, self.c = Pollutant(), Pollutant()\n'
-                             "            for old in (event for event in self.events if event[0] == 'E'):\n"
-                             '                self.h.engine(old[3], ev[1])\n'
-                             '                self.c.engine(old[4], ev[2])\n')],
+                             '            self.engines = [engine._replace(standards=self.standards) for engine in self.engines]\n'
+                             '            self.rework()\n')],
     # compares the CumSum with the action limit of the engine before
     'limit_of_the_previous': [('        self.h_low, self.h_high = 20 * s, 20 * (s + e)\n', ''),
                               ("            self.marks += '?'\n", "            self.marks += '?'\n        self.h_low, self.h_high = 20 * s, 20 * (s + e)\n"),

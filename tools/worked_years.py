@@ -1,5 +1,5 @@
 #!/usr/bin/env python3
-"""Input and expected output of the test program worked_years, from document 01 alone (tools/model.py).
+"""Input and expected output of the test program worked_years, from document 01 and W-201 of document 02 alone (tools/model.py).
 
 Run from the repository's root, it writes crates/worked_years/stdin and crates/worked_years/stdout; it shares nothing with the calculator.
 A line of the input is a letter, then a space and its words or numbers, with single spaces between them:
@@ -11,16 +11,20 @@ A line of the input is a letter, then a space and its words or numbers, with sin
   c volume                         one percent of the volume
   S volume days hcnox co kind value kind value
                                    a year begins with this setup (HC+NOx first); if it is out of range, "no year" is printed and the year before goes on
-  E number readings hcnox co       an engine with its results; like the next three, it is entered if it can be, and prints nothing
+  E number readings hcnox co       an engine with its results; like the next four, it is entered if it can be, and prints nothing
   A hcnox co                       an amendment
   P                                the next period
   X                                the declaration
+  Z                                the strike of the newest engine
   F resolution                     prints a line: events entered, n, verdict, the figures of HC+NOx and of CO, and the same computed anew at the resolution.
                                    Figures are S, s, e, both C, both H, N in tenths, mark
+It fails if a strike was never entered, or never refused by 8, 9 or 17.
 """
-from model import A, D, E, K, P, Pollutant, Year, needed, period_count, result_of, round_even, self_check, setup_ok
+from collections import Counter
+from model import A, D, E, K, P, Pollutant, Year, Z, needed, period_count, result_of, round_even, self_check, setup_ok
 
-LETTERS = {'E': 'E', 'A': 'A', 'P': 'P', 'D': 'X'}
+LETTERS = {'E': 'E', 'A': 'A', 'P': 'P', 'D': 'X', 'Z': 'Z'}
+SHOW = ('show',)        # among events: the figures are printed here
 
 
 class Sheet:
@@ -28,6 +32,7 @@ class Sheet:
 
     def __init__(self):
         self.input, self.output = [], ''
+        self.strikes = Counter()            # by their refusal, 0 for none
 
     def line(self, letter, *numbers):
         self.input.append(' '.join([letter] + [str(n) for n in numbers]))
@@ -65,20 +70,35 @@ class Sheet:
         self.output += ' '.join(map(str, numbers)) + '\n'
 
     def year(self, setup, events, resolution, each=True):
-        """Prints the figures before the first event and after each event, or only after the last."""
+        """Prints the figures before the first event and after each event, or only where SHOW stands and after the last."""
         year = self.setup(*setup)
-        finer = Pollutant(resolution), Pollutant(resolution)
+        tested = []                         # results and standards of the engines that remain
         if each:
-            self.figures(year, finer, resolution)
+            self.figures(year, worked_at(resolution, tested), resolution)
         for event in events:
+            if event == SHOW:
+                self.figures(year, worked_at(resolution, tested), resolution)
+                continue
             self.line(LETTERS[event[0]], *event[1:])
-            if year.enter(event) == 0 and event[0] == 'E':
-                for p, result, standard in zip(finer, event[3:], year.standards):
-                    p.engine(result, standard)
+            refusal = year.enter(event)
+            if event == Z:
+                self.strikes[refusal] += 1
+            if refusal == 0 and event[0] == 'E':
+                tested.append((event[3:], year.standards))
+            if refusal == 0 and event == Z:
+                tested.pop()
             if each:
-                self.figures(year, finer, resolution)
+                self.figures(year, worked_at(resolution, tested), resolution)
         if not each:
-            self.figures(year, finer, resolution)
+            self.figures(year, worked_at(resolution, tested), resolution)
+
+
+def worked_at(resolution, tested):
+    both = Pollutant(resolution), Pollutant(resolution)
+    for results, standards in tested:
+        for p, result, standard in zip(both, results, standards):
+            p.engine(result, standard)
+    return both
 
 
 def results(kind, value, *readings):
@@ -158,6 +178,45 @@ def largest_years(sheet):
     sheet.year((99999999, 20000, 20000), turns[:38] + [A(10, 10)] + turns[39:], 8 * K)
 
 
+def struck_years(sheet):
+    """Document 01's run struck back to its start, one strike more, and engine 3 again. An engine over, struck, and entered again under the standard of an
+    amendment in between. T of N is that of the newest remaining engine (verdict 2 again), though another is in force. Undecided marks that a strike takes back,
+    and 'O' again after an 'O' that was struck; then a failure, which cannot be struck. Periods: short again by a strike, none of an earlier period, none after a
+    declaration."""
+    sheet.title('struck')
+    sheet.year((5000, 800, 6100), engines(998, 1071, 900) + [Z, Z, Z, Z, E(3, 1, 900, 5000), E(3, 1, 900, 5000), E(1, 1, 998, 5000)], 8 * K)
+    sheet.title('struck, amended')
+    sheet.year((1500, 1000, 6100), [E(1, 1, 900, 5000), E(2, 2, 900, 6000), A(700, 5900), Z, E(2, 1, 900, 6000), A(1000, 6100), Z, A(800, 20000), Z, Z], K)
+    sheet.title('struck, T')
+    sheet.year((1500, 1000, 6100), [E(1, 1, 800, 5000), E(2, 1, 800, 5000), A(10, 10), E(3, 1, 800, 5000), Z, E(4, 1, 800, 5000)], 8 * K)
+    sheet.title('struck, undecided')
+    sheet.year((5000, 800, 6100), engines(998, 1071, 926) + [Z, E(3, 1, 926, 5000), Z, E(3, 1, 700, 5000), E(4, 1, 700, 5000)], 8 * K)
+    sheet.title('struck, over')
+    sheet.year((5000, 100, 6100), [E(1, 1, 500, 5000), E(2, 1, 500, 5000), Z, E(2, 3, 500, 5000), E(3, 1, 500, 5000), Z, P, E(4, 1, 0, 0)], K)
+    sheet.title('struck, periods')
+    sheet.year((5000, 1000, 6100), [Z, E(1, 1, 800, 5000), E(2, 1, 820, 5100), Z, P, E(2, 1, 830, 5100), P, Z, E(3, 1, 810, 5050), Z, Z, P, E(4, 1, 815, 5060), P,
+                                    E(5, 1, 805, 5010), E(6, 1, 825, 5020), Z, D, Z], 2 * K)
+
+
+def full_struck_years(sheet):
+    """Forty engines of the largest results, the last struck, a forty-first in its place, another that does not fit, and strikes until no slot is left. Thirty
+    engines (verdict 3), and the strike of the thirtieth; twenty where one percent is twenty (verdict 4). One engine and sixty-two amendments: a strike in the
+    last slot, and one more; the same with all slots taken. Thirty-two engines, each struck at once, and one more."""
+    turns = [E(i + 1, 3, 20000 * (i % 2), 20000 - 20000 * (i % 2)) for i in range(41)]
+    sheet.title('struck, forty')
+    sheet.year((99999999, 20000, 20000), turns[:40] + [Z, SHOW, turns[40], SHOW, E(42, 1, 0, 0), SHOW] + [Z, SHOW] * 22 + [Z], 8 * K, each=False)
+    steady = [E(i + 1, 1, 900 + 200 * (i % 2), 6000 + 200 * (i % 2)) for i in range(30)]
+    sheet.title('struck, thirty')
+    sheet.year((99999999, 1000, 6100), steady + [SHOW, Z, SHOW, steady[29]], 2 * K, each=False)
+    sheet.title('struck, one percent')
+    sheet.year((2000, 1000, 6100), steady[:20] + [SHOW, Z, SHOW, steady[20]], 2 * K, each=False)
+    sheet.title('struck, many events')
+    sheet.year((5000, 800, 6100), engines(998) + [A(10, 20000)] * 62 + [Z, SHOW, Z, D], K, each=False)
+    sheet.year((5000, 800, 6100), engines(998) + [A(10, 20000)] * 63 + [Z], K, each=False)
+    sheet.title('year of strikes')
+    sheet.year((5000, 800, 6100), [E(7, 1, 998, 5000), Z] * 31 + [SHOW, E(7, 1, 998, 5000), SHOW, Z, SHOW, E(7, 1, 998, 5000), Z], K, each=False)
+
+
 def main():
     self_check()
     sheet = Sheet()
@@ -165,6 +224,9 @@ def main():
     document_years(sheet)
     other_years(sheet)
     largest_years(sheet)
+    struck_years(sheet)
+    full_struck_years(sheet)
+    assert set(sheet.strikes) == {0, 8, 9, 17} and len(sheet.input) <= 2000       # so many lines the test program reads
     for name, text in (('stdin', ''.join(line + '\n' for line in sheet.input)), ('stdout', sheet.output)):
         with open('crates/worked_years/%s' % name, 'w') as f:
             f.write(text)

@@ -78,6 +78,9 @@ fn answer_of(letter: u8, numbers: &[u32], journal: &mut [u8]) -> Answer
     if letter == b'X' {
         return enter_change(journal, Change::Declare);
     }
+    if letter == b'Z' {
+        return enter_change(journal, Change::Delete);
+    }
     read_status(journal)
 }
 
@@ -141,7 +144,7 @@ pub fn obey(letter: u8, numbers: &[u32], journal: &mut [u8], lent: usize) -> usi
     if letter == b'B' {
         return at_most(numbers[0], 560);
     }
-    if letter == b'Z' {
+    if letter == b'N' {
         clear(journal);
         return lent;
     }

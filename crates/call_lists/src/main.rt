@@ -1,5 +1,5 @@
 // A test program: lists of public calls from standard input, one per line, and what each call answers, with a digest of the journal after it. Input and
-// expected output are made by tools/call_lists.py, which works from document 01 alone and describes the line format.
+// expected output are made by tools/call_lists.py, which works from documents 01 and 02 alone and describes the line format.
 ghost use mathlib.Core.Path.{_≡_};
 ghost use Prim.Native.Nat.{_≤_, _<_};
 ghost use lib.ListN.{length};
@@ -42,7 +42,7 @@ fn main() {
     let mut journal = [0u8; 560];
     let mut lent: usize = 544;
     let mut i: u32 = 0;
-    while i < 20000 {
+    while i < 40000 {
         lent = next_line(&mut line, &mut journal, lent);
         i += 1;
     }

@@ -19,7 +19,8 @@ module _ (bytes : List ℕ) (known : Bytes bytes) where
       subst EventFits
       (sym h)
       (by-test EventFits (eqb (getD bytes 0 0) 1) _ _ (λ _. known 1)
-      (λ _. by-test EventFits (eqb (getD bytes 0 0) 2) _ _ (λ _. none) (λ _. by-test EventFits (eqb (getD bytes 0 0) 3) _ _ (λ _. none) (λ _. none))))
+      (λ _. by-test EventFits (eqb (getD bytes 0 0) 2) _ _ (λ _. none)
+      (λ _. by-test EventFits (eqb (getD bytes 0 0) 3) _ _ (λ _. none) (λ _. by-test EventFits (eqb (getD bytes 0 0) 5) _ _ (λ _. none) (λ _. none)))))
 
   pub setup-fits : {s : Setup} → s ≡ setupIn bytes → SetupFits s
   setup-fits h = subst SetupFits (sym h) (record { hcnox = known 18; co = known 19 })

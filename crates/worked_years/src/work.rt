@@ -107,12 +107,15 @@ fn event_of(letter: u8, numbers: &[u32]) -> Event
     if letter == b'P' {
         return Event::NextPeriod;
     }
+    if letter == b'Z' {
+        return Event::Deletion;
+    }
     Event::Declaration
 }
 
 fn is_event(letter: u8) -> bool {
     match letter {
-        b'E' | b'A' | b'P' | b'X' => true,
+        b'E' | b'A' | b'P' | b'X' | b'Z' => true,
         _ => false,
     }
 }

@@ -10,7 +10,7 @@ abbrev Inv-loop : tie.InvT-loop
 Inv-loop line₀ journal₀ lent₀ i₀ line journal lent i = (length line ≡ 256) × (length journal ≡ 560) × (lent ≤ 560)
 
 abbrev μ-loop : tie.MeasureT-loop
-μ-loop line₀ journal₀ lent₀ i₀ line journal lent i = 20000 - i
+μ-loop line₀ journal₀ lent₀ i₀ line journal lent i = 40000 - i
 
 loop-holds : tie.Need-loop-holds Inv-loop μ-loop
 loop-holds c = omega arith

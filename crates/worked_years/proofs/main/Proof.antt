@@ -10,7 +10,7 @@ abbrev Inv-loop : tie.InvT-loop
 Inv-loop p₀ i₀ p i = Consistent p
 
 abbrev μ-loop : tie.MeasureT-loop
-μ-loop p₀ i₀ p i = 1000 - i
+μ-loop p₀ i₀ p i = 2000 - i
 
 first-year-requires : tie.Need-first-year-requires Inv-loop μ-loop
 first-year-requires c κs = search needs
