@@ -19,7 +19,7 @@ use Rattle.reference.specs.Cases.{yearOf, entering, changing, newYear, e
 abbrev strike : Call
 strike = changing Delete
 
--- engine 1, an amendment so many times, and what came before
+-- an amendment so many times, after these events
 abbrev amended : ℕ → List Event → List Event
 amended times es = replicate times (Amendment (pair 700 6100)) ++ es
 
