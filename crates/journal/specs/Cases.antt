@@ -9,12 +9,12 @@ use Rattle.year.specs.declared.Event.{Event}
 use Rattle.year.specs.declared.Event.the-variants.{Engine, Amendment, NextPeriod, Declaration, Deletion}
 use Rattle.year.specs.Model.{NoSetup, Year}
 use Rattle.year.specs.Cases.{pair, setupOf, engine}
-use Rattle.journal.specs.Encode.{encode, slotOf, append}
+use Rattle.journal.specs.Encode.{setupVersion, encode, slotOf, append}
 use Rattle.journal.specs.Read.{readJournal}
 
 -- "S 5000 365 800 6100 0 0 0 0", and then "E 1 998000 5000000"
 abbrev pub none : List ℕ
-none = encode 1 (setupOf 5000 800) []
+none = encode setupVersion (setupOf 5000 800) []
 
 abbrev pub one : List ℕ
 one = encode 1 (setupOf 5000 800) (engine 1 998 ∷ [])

@@ -11,13 +11,13 @@ use Rattle.year.specs.declared.Event.{Event}
 use Rattle.year.specs.declared.Event.the-variants.{Engine, Amendment, NextPeriod, Declaration, Deletion}
 use Rattle.year.specs.Deletions.{isDeletion, hasDeletion}
 
--- "version 1": a new setup's
+-- "version 1", which a setup writes
 abbrev pub setupVersion : ℕ
 setupVersion = 1
 
--- "A version 2 book holds at least one strike" (document 02, W-201), a book of version 1 none
+-- "A version 2 book holds at least one strike" (document 02, W-201), and a book of version 1 none
 abbrev pub version : List Event → ℕ
-version es = cond (hasDeletion es) 2 setupVersion
+version es = cond (hasDeletion es) 2 1
 
 -- a journal of this version can hold this setup and these events
 unfoldable pub canHold : ℕ → Setup → List Event → Bool
