@@ -16,7 +16,7 @@ use Rattle.buffers.proofs.Lists.{length-zeros, drop-zeros}
 use Rattle.year.specs.declared.Setup.{Setup}
 use Rattle.year.specs.declared.Event.{Event}
 use Rattle.year.specs.Deletions.{isDeletion, hasDeletion}
-use Rattle.journal.specs.Encode.{version, canHold, header, slotOf, slots, encode, slotPlace, withSlot, versionIn, raises, raised, append}
+use Rattle.journal.specs.Encode.{version, canHold, header, slotOf, slots, encode, slotPlace, withSlot, raises, raised, append}
 
 pub length-slot : (e : Event) → length (slotOf e) ≡ 8
 length-slot e = refl

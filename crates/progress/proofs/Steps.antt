@@ -40,7 +40,7 @@ started s e h c te hh hc =
     stands : record { setup = s; standards = s .standards; period = 1; tested = tested e; stored = 0; declared = false } ≡ start s
     stands = rw te
 
--- a state with one more event that is not an engine
+-- a state with one more event that leaves the engines
 abbrev changed : State → Pair → ℕ → Bool → ℕ → State
 changed p standards period declared current =
     record {
@@ -53,6 +53,21 @@ changed p standards period declared current =
       current = current;
       hcnox = p .hcnox;
       co = p .co;
+    }
+
+-- a state with one more event that changes the engines, and with them their number in the current period and the figures
+abbrev with-engines : State → Engines → ℕ → Running → Running → State
+with-engines p e current h o =
+    record {
+      setup = p .setup;
+      standards = p .standards;
+      period = p .period;
+      engines = e;
+      stored = p .stored + 1;
+      declared = p .declared;
+      current = current;
+      hcnox = h;
+      co = o;
     }
 
 -- without its newest engine a period has one less
@@ -78,19 +93,7 @@ module _ (p : State) (c : Consistent p) where
 
   -- one engine less: the newest, which was of the current period
   pub deleted : (e : Engines) (h o : Running) → admissible (progressOf p) Deletion ≡ true → tested e ≡ drop 1 (tested (p .engines)) → Figured 1024 e h o
-      → Represents
-      record {
-        setup = p .setup;
-        standards = p .standards;
-        period = p .period;
-        engines = e;
-        stored = p .stored + 1;
-        declared = p .declared;
-        current = p .current - 1;
-        hcnox = h;
-        co = o;
-      }
-      (after Deletion (progressOf p))
+      → Represents (with-engines p e (p .current - 1) h o) (after Deletion (progressOf p))
   deleted e h o a te f =
       let fewer = fewer-in (p .period) (tested (p .engines)) (fitting (progressOf p) Deletion a) in
       stepped Deletion a _ (rw te) (rw te (ap (λ n. n - 1) (c .current) ∙ fewer)) f
@@ -101,19 +104,7 @@ module _ (p : State) (c : Consistent p) where
       → tested e ≡ record { number = number; results = results; standards = p .standards; period = p .period } ∷ tested (p .engines)
       → ((xs : List Test) → p .hcnox ≡ running 1024 xs → h ≡ running 1024 (record { result = results .hcnox; standard = p .standards .hcnox } ∷ xs))
       → ((xs : List Test) → p .co ≡ running 1024 xs → o ≡ running 1024 (record { result = results .co; standard = p .standards .co } ∷ xs))
-      → Represents
-      record {
-        setup = p .setup;
-        standards = p .standards;
-        period = p .period;
-        engines = e;
-        stored = p .stored + 1;
-        declared = p .declared;
-        current = p .current + 1;
-        hcnox = h;
-        co = o;
-      }
-      (after (Engine number readings results) (progressOf p))
+      → Represents (with-engines p e (p .current + 1) h o) (after (Engine number readings results) (progressOf p))
   engine number readings results e h o a te eh eo =
       stepped (Engine number readings results) a _ (rw te) (rw (te, eq-eqb (p .period) (p .period) refl) (omega (arith, c .current)))
       (record { hcnox = rw te (eh _ (c .figures .hcnox)); co = rw te (eo _ (c .figures .co)) })

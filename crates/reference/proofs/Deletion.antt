@@ -1,12 +1,11 @@
 -- W-201's promises, proved: two years that differ only in how many events are stored have the same figures, and the same refusals while slots are left.
 use mathlib.Core.Path.{_≡_, refl, sym, ap, _∙_}
-use mathlib.Core.Bool.{true, false, cond}
-use mathlib.Core.List.{List, [], _∷_}
+use mathlib.Core.Bool.{cond}
+use mathlib.Core.List.{List, _∷_}
 use Prim.Native.Nat.{ℕ, _+_, _<_}
 use native.Mathlib.Omega.{arith}
 use lib.ListN.{length, getD}
 use borrow.Author.Tests.{lt-leb}
-use Rattle.buffers.specs.Bytes.{put}
 use Rattle.conditions.proofs.Tests.{eqb-refl}
 use Rattle.year.specs.declared.Setup.{Setup}
 use Rattle.year.specs.declared.Event.{Event}
@@ -22,13 +21,10 @@ use Rattle.year.proofs.Remaining.{storing-closed, deletions}
 use Rattle.journal.specs.Encode.{encode, version}
 use Rattle.journal.specs.Read.{readJournal}
 use Rattle.journal.proofs.OneJournal.{demand}
-use Rattle.reference.specs.declared.Answer.{Answer}
 use Rattle.reference.specs.declared.Answer.the-variants.{Accepted}
-use Rattle.reference.specs.declared.OutputAnswer.{OutputAnswer}
-use Rattle.reference.specs.declared.Change.the-variants.{Delete}
-use Rattle.reference.specs.Call.{Readings, EnterEngine, EnterChange, Form, Marks, Query, ReadStatus, Write, Call, Enter, Ask, eventOf}
+use Rattle.reference.specs.Call.{Readings, EnterEngine, Form, Marks, Query, ReadStatus, Write, Call, Ask, eventOf}
 use Rattle.reference.specs.Refusals.{refusals, refusal}
-use Rattle.reference.specs.Answers.{refusalOn, journalAfter, statusOf, answer, outBytes, outAfter, outPart, outputAnswer}
+use Rattle.reference.specs.Answers.{refusalOn, journalAfter, statusOf, answer, outBytes, outAfter, outPart}
 use Rattle.reference.specs.Deletion.{entering, deleting, SameFigures, DeletionPromises}
 use Rattle.reference.proofs.Given.{held-year, accepted-answer, accepted-year, accepted-reads, year-size, status-accepted}
 use Rattle.reference.proofs.Demand1.{demand-1}

@@ -1,7 +1,7 @@
 -- Demand 1, proved.
 use mathlib.Core.Path.{_≡_, refl, sym, ap, _∙_}
 use mathlib.Core.Logic.{_↔_, _≢_, inl, inr, ⊎-elim}
-use mathlib.Core.Bool.{true, false, _&&_}
+use mathlib.Core.Bool.{true, false}
 use mathlib.Core.List.{List, [], _∷_}
 use Prim.Native.Nat.{ℕ, _+_, _*_, _≤_, _<_}
 use native.Mathlib.Nat.{eq-or-lt-of-le}
@@ -29,7 +29,7 @@ use Rattle.journal.specs.Read.{readJournal}
 use Rattle.journal.proofs.Encoded.{length-slot}
 use Rattle.journal.proofs.OneJournal.{demand}
 use Rattle.reference.specs.declared.Change.the-variants.{Amend, BeginPeriod, Declare, Delete}
-use Rattle.reference.specs.Call.{Entry, EnterEngine, EnterChange, Form, Marks, Write, Call, SetUp, Enter, Ask, eventOf, isSetup, ofChange, ofDeletion}
+use Rattle.reference.specs.Call.{Entry, EnterEngine, EnterChange, Form, Marks, Write, Call, SetUp, Enter, Ask, eventOf, ofChange, ofDeletion}
 use Rattle.reference.specs.Refusals.{refusals, refusal}
 use Rattle.reference.specs.Answers.{refusalsOn, refusalOn, withEntry, written, journalAfter, noStatus, statusOf, answer, Outcome, outcomeOf, outcome, outBytes, outAfter, outPart}
 use Rattle.reference.specs.Demand1.{Demand1}

@@ -1,12 +1,12 @@
 -- The events that remain could have been entered by themselves: no deletion is among them, and each was admissible after those before it.
 use mathlib.Core.Path.{_≡_, refl, sym, ap, _∙_}
-use mathlib.Core.Bool.{Bool, true, false, not, _&&_, _||_, true≢false, false≢true, and-eq-true-iff}
+use mathlib.Core.Bool.{true, false, not, _&&_, true≢false, false≢true, and-eq-true-iff}
 use mathlib.Core.List.{List, [], _∷_}
 use Prim.Native.Nat.{ℕ, _+_, _≤_, _<_}
 use native.Mathlib.Omega.{arith}
 use lib.ListN.{length, drop}
 use borrow.Author.Tests.{lt-leb, not-true, ne-eqb}
-use Rattle.conditions.proofs.Tests.{or-false}
+use Rattle.conditions.proofs.Tests.{by-test, or-false}
 use Rattle.cumsum.specs.Marks.{mark, marks, bothOver, consecutive, failed}
 use Rattle.year.specs.declared.Setup.{Setup}
 use Rattle.year.specs.declared.Event.{Event}
@@ -16,49 +16,38 @@ use Rattle.year.specs.Replay.{Tested, Progress, after, replay, history, 
 use Rattle.year.specs.Verdict.{verdict}
 use Rattle.year.specs.Status.{status, yearMarks}
 use Rattle.year.specs.Admissible.{closed, eventsFull, fits, admissible, valid}
-use Rattle.year.specs.Deletions.{hasDeletion, withoutNewest, remaining, storing, Deletions}
+use Rattle.year.specs.Deletions.{isEngine, isDeletion, hasDeletion, withoutNewest, remaining, storing, Deletions}
 use Rattle.year.specs.Ranges.{PeriodsUpTo}
 use Rattle.year.proofs.Replayed.{replay-stored}
 use Rattle.year.proofs.Valid.{valid-before, valid-newest, valid-next}
 use Rattle.year.proofs.Ranges.{not-full, fitting, valid-in-range}
 use Rattle.year.proofs.Closed.{closed-is}
-use Rattle.year.proofs.Deletions.{storing-status, deleted, of-remaining}
+use Rattle.year.proofs.Deletions.{is-deletion, storing-status, deleted, of-remaining}
 
--- ---- no deletion remains
+-- ---- no deletion remains, and there are no more events than before
 
 none-without : (es : List Event) → hasDeletion es ≡ false → hasDeletion (withoutNewest es) ≡ false
 none-without [] h = refl
-none-without (Engine number readings results ∷ es) h = h
-none-without (Amendment standards ∷ es) h = none-without es h
-none-without (NextPeriod ∷ es) h = none-without es h
-none-without (Declaration ∷ es) h = none-without es h
-none-without (Deletion ∷ es) h = absurd (true≢false h)
+none-without (e ∷ es) h =
+    let parts = or-false (isDeletion e) (hasDeletion es) h in
+    by-test (λ (l : List Event). hasDeletion l ≡ false) (isEngine e) es (e ∷ withoutNewest es) (λ _. parts .1) (λ _. rw (parts .0) (none-without es (parts .1)))
 
 pub none-remains : (es : List Event) → hasDeletion (remaining es) ≡ false
 none-remains [] = refl
-none-remains (Engine number readings results ∷ es) = none-remains es
-none-remains (Amendment standards ∷ es) = none-remains es
-none-remains (NextPeriod ∷ es) = none-remains es
-none-remains (Declaration ∷ es) = none-remains es
-none-remains (Deletion ∷ es) = none-without (remaining es) (none-remains es)
-
--- ---- there are no more events than before
+none-remains (e ∷ es) =
+    by-test (λ (l : List Event). hasDeletion l ≡ false) (isDeletion e) (withoutNewest (remaining es)) (e ∷ remaining es)
+    (λ _. none-without (remaining es) (none-remains es)) (λ n. rw n (none-remains es))
 
 length-without : (es : List Event) → length (withoutNewest es) ≤ length es
 length-without [] = omega arith
-length-without (Engine number readings results ∷ es) = omega arith
-length-without (Amendment standards ∷ es) = omega (arith, length-without es)
-length-without (NextPeriod ∷ es) = omega (arith, length-without es)
-length-without (Declaration ∷ es) = omega (arith, length-without es)
-length-without (Deletion ∷ es) = omega (arith, length-without es)
+length-without (e ∷ es) =
+    by-test (λ (l : List Event). length l ≤ length (e ∷ es)) (isEngine e) es (e ∷ withoutNewest es) (λ _. omega arith) (λ _. omega (arith, length-without es))
 
 length-remaining : (es : List Event) → length (remaining es) ≤ length es
 length-remaining [] = omega arith
-length-remaining (Engine number readings results ∷ es) = omega (arith, length-remaining es)
-length-remaining (Amendment standards ∷ es) = omega (arith, length-remaining es)
-length-remaining (NextPeriod ∷ es) = omega (arith, length-remaining es)
-length-remaining (Declaration ∷ es) = omega (arith, length-remaining es)
-length-remaining (Deletion ∷ es) = omega (arith, length-remaining es, length-without (remaining es))
+length-remaining (e ∷ es) =
+    by-test (λ (l : List Event). length l ≤ length (e ∷ es)) (isDeletion e) (withoutNewest (remaining es)) (e ∷ remaining es)
+    (λ _. omega (arith, length-remaining es, length-without (remaining es))) (λ _. omega (arith, length-remaining es))
 
 -- ---- a year that takes events still takes them without its newest engine
 
@@ -145,15 +134,15 @@ module _ (s : Setup) where
 
   pub remaining-valid : (es : List Event) → valid s es ≡ true → valid s (remaining es) ≡ true
   remaining-valid [] v = v
-  remaining-valid (Engine number readings results ∷ es) v = keeps (Engine number readings results) es v (remaining-valid es (valid-before s (Engine number readings results) es v))
-  remaining-valid (Amendment standards ∷ es) v = keeps (Amendment standards) es v (remaining-valid es (valid-before s (Amendment standards) es v))
-  remaining-valid (NextPeriod ∷ es) v = keeps NextPeriod es v (remaining-valid es (valid-before s NextPeriod es v))
-  remaining-valid (Declaration ∷ es) v = keeps Declaration es v (remaining-valid es (valid-before s Declaration es v))
-  remaining-valid (Deletion ∷ es) v =
-      let w = remaining-valid es (valid-before s Deletion es v) in
-      let a = next-admitted Deletion es (valid-newest s Deletion es v) in
-      let p = replay s (remaining es) in
-      without-valid (remaining es) (none-remains es) w (fitting p Deletion a) (admitted-open p Deletion a)
+  remaining-valid (e ∷ es) v =
+      let w = remaining-valid es (valid-before s e es v) in
+      by-test (λ (l : List Event). valid s l ≡ true) (isDeletion e) (withoutNewest (remaining es)) (e ∷ remaining es)
+      (λ h. struck w (next-admitted Deletion es (rw (← is-deletion e h) (valid-newest s e es v)))) (λ _. keeps e es v w)
+    where
+      struck : valid s (remaining es) ≡ true → admissible (replay s (remaining es)) Deletion ≡ true → valid s (withoutNewest (remaining es)) ≡ true
+      struck w a =
+          let p = replay s (remaining es) in
+          without-valid (remaining es) (none-remains es) w (fitting p Deletion a) (admitted-open p Deletion a)
 
 pub deletions : (s : Setup) (es : List Event) → Deletions s es
 deletions s es =

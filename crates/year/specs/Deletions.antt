@@ -1,7 +1,7 @@
 -- Document 02, W-201, on the events of a year, listed with the newest first: "All figures become those the book had without that engine, and amendments since
 -- are kept." A deletion is document 02's strike.
 use mathlib.Core.Path.{_≡_}
-use mathlib.Core.Bool.{Bool, true, false, _||_}
+use mathlib.Core.Bool.{Bool, true, false, cond, _||_}
 use mathlib.Core.List.{List, [], _∷_}
 use Prim.Native.Nat.{ℕ}
 use lib.ListN.{length}
@@ -11,6 +11,13 @@ use Rattle.year.specs.declared.Event.the-variants.{Engine, Amendment, Ne
 use Rattle.year.specs.Replay.{Progress, replay}
 use Rattle.year.specs.Admissible.{valid}
 use Rattle.year.specs.Status.{status, yearMarks}
+
+abbrev pub isEngine : Event → Bool
+isEngine (Engine number readings results) = true
+isEngine (Amendment standards) = false
+isEngine NextPeriod = false
+isEngine Declaration = false
+isEngine Deletion = false
 
 abbrev pub isDeletion : Event → Bool
 isDeletion (Engine number readings results) = false
@@ -27,20 +34,12 @@ hasDeletion (e ∷ es) = isDeletion e || hasDeletion es
 -- the events without the newest engine; all of them if there is no engine
 abbrev pub withoutNewest : List Event → List Event
 withoutNewest [] = []
-withoutNewest (Engine number readings results ∷ es) = es
-withoutNewest (Amendment standards ∷ es) = Amendment standards ∷ withoutNewest es
-withoutNewest (NextPeriod ∷ es) = NextPeriod ∷ withoutNewest es
-withoutNewest (Declaration ∷ es) = Declaration ∷ withoutNewest es
-withoutNewest (Deletion ∷ es) = Deletion ∷ withoutNewest es
+withoutNewest (e ∷ es) = cond (isEngine e) es (e ∷ withoutNewest es)
 
 -- the events without the deletions and the engines that they removed
 abbrev pub remaining : List Event → List Event
 remaining [] = []
-remaining (Engine number readings results ∷ es) = Engine number readings results ∷ remaining es
-remaining (Amendment standards ∷ es) = Amendment standards ∷ remaining es
-remaining (NextPeriod ∷ es) = NextPeriod ∷ remaining es
-remaining (Declaration ∷ es) = Declaration ∷ remaining es
-remaining (Deletion ∷ es) = withoutNewest (remaining es)
+remaining (e ∷ es) = cond (isDeletion e) (withoutNewest (remaining es)) (e ∷ remaining es)
 
 -- the same year, with this number of events stored
 abbrev pub storing : ℕ → Progress → Progress

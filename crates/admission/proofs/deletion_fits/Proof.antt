@@ -1,6 +1,5 @@
 -- `deletion_fits` meets its contract.
 use Rattle.progress.proofs.Carried.{count-le}
-use borrow.Author.Needs.{needs}
 use Rattle.admission.proofs.deletion_fits.Statement.{statement}
 use Rattle.admission.proofs.deletion_fits.Tie as tie
 

@@ -1,9 +1,6 @@
 -- `is_version` meets its contract.
-use mathlib.Core.Path.{_≡_, sym, _∙_}
-use mathlib.Core.Bool.{true, false}
-use Rattle.year.specs.Deletions.{hasDeletion}
+use mathlib.Core.Path.{sym, _∙_}
 use Rattle.journal.specs.Encode.{canHold}
-use Rattle.journal.specs.Read.{eventsIn}
 use Rattle.journal.specs.Acceptance.{isVersion}
 use borrow.Author.Needs.{needs}
 use Rattle.versions.proofs.is_version.Statement.{statement}

@@ -1,6 +1,5 @@
 -- `lookup::newest_in` meets its contract.
 use mathlib.Core.Path.{sym}
-use native.Mathlib.Omega.{arith}
 use Rattle.engines.proofs.Arrays.{newest-at}
 use borrow.Author.Needs.{needs}
 use Rattle.engines.proofs.lookup.newest_in.Statement.{statement}
