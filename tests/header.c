@@ -1,4 +1,5 @@
-/* Every function and every name of include/plt.h. The figures are those of document 01's undecided mark: T 800, X 998 then 1,071; CO 5,000 twice under 6,100. */
+/* Every function and every name of include/plt.h, and what it says of strikes. The figures are those of document 01's undecided mark: T 800, X 998 then 1,071;
+   CO 5,000 twice under 6,100. */
 #include "plt.h"
 #include <stdio.h>
 #include <string.h>
@@ -51,6 +52,8 @@ static void refusals(void) {
     same("no journal", keyed("L\n", 0, 0), PLT_REFUSED_JOURNAL);
     same("closed", keyed(SETUP "\nX\nP\n", 0, 0), PLT_REFUSED_YEAR_CLOSED);
     same("64 events", keyed(SETUP "\nP\n", 0, 64), PLT_REFUSED_EVENTS_FULL);
+    same("nothing to strike", keyed(SETUP "\nZ\n", 0, 0), PLT_REFUSED_DELETION);
+    same("nothing of this period to strike", keyed(SETUP "\nP\nZ\n", 2, 0), PLT_REFUSED_DELETION);
     same("engine number", keyed(SETUP "\nE 0 1 1\n", 0, 0), PLT_REFUSED_ENGINE_NUMBER);
     same("reading count", keyed(SETUP "\nE 1\n", 0, 0), PLT_REFUSED_READING_COUNT);
     same("reading", keyed(SETUP "\nE 1 20000001 1\n", 0, 0), PLT_REFUSED_READING);
@@ -75,6 +78,7 @@ static void verdicts(void) {
     same("undecided", verdict(SETUP "\nE 1 998000 5000000\nE 2 1071000 5000000\nE 3 926000 5000000\n", 0), PLT_VERDICT_UNDECIDED);
     same("failed", verdict("S 5000 365 100 6100 0 0 0 0\n", 3), PLT_VERDICT_FAILED);
     same("declared", verdict(SETUP "\nX\n", 0), PLT_VERDICT_DECLARED);
+    same("short again", verdict(SETUP "\nZ\n", 2), PLT_VERDICT_SHORT);
 }
 
 static void pollutant(const uint64_t *f, uint64_t sum, uint64_t deviation, uint64_t inexact, uint64_t c, uint64_t h, uint64_t size, int mark) {
@@ -132,8 +136,46 @@ static void calls(void) {
     same("all of it written", written, PLT_MARKS_SIZE);
 }
 
+/* The journal differs from what it was at these places, which ascend, and at no others. */
+static void differ_at(const uint8_t *before, const size_t *places, size_t count) {
+    for (size_t i = 0, next = 0; i < PLT_JOURNAL_SIZE; i++) {
+        int named = next < count && places[next] == i;
+        next += (size_t)named;
+        same("whether a byte was written", journal[i] != before[i], (unsigned long long)named);
+    }
+}
+
+/* A strike leaves the figures and the refusals of the year without the engine. The first of a journal writes byte 3, the version, besides its slot and byte 24; a
+   second leaves byte 3, and a setup writes version 1 again. */
+static void strikes(void) {
+    const uint32_t co[] = {5000000}, third[] = {900000};
+    const size_t first_strike[] = {3, 24, 56}, second_strike[] = {24, 72};
+    uint8_t before[PLT_JOURNAL_SIZE], out[PLT_REPLY_SIZE];
+    uint64_t figures[PLT_FIGURE_COUNT];
+    keyed(SETUP "\nE 1 998000 5000000\nE 2 1071000 5000000\n", 0, 0);
+    for (int i = 0; i < 2; i++) {
+        same("an engine to strike", plt_engine(journal, sizeof journal, 3, third, 1, co, 1, figures, PLT_FIGURE_COUNT), PLT_ACCEPTED);
+        same("n with it", figures[PLT_FIGURE_TESTED], 3);
+        memcpy(before, journal, sizeof before);
+        same("strike", key("Z", out, sizeof out), 15);
+        same("its reply", (unsigned long long)memcmp(out, "OK 2 1 ?U 30 10", 15), 0);
+        differ_at(before, i == 0 ? first_strike : second_strike, i == 0 ? 3 : 2);
+        same("status", plt_status(journal, sizeof journal, figures, PLT_FIGURE_COUNT), PLT_ACCEPTED);
+        status(figures);
+        same("version", journal[3], 2);
+    }
+    same("a strike after a failure", keyed("S 5000 365 100 6100 0 0 0 0\nZ\n", 3, 0), PLT_REFUSED_YEAR_CLOSED);
+    same("a strike in the last slot", keyed(SETUP "\nZ\n", 1, 62), PLT_ACCEPTED);
+    same("a strike after the last slot", keyed(SETUP "\nZ\n", 1, 63), PLT_REFUSED_EVENTS_FULL);
+    same("a forty-first engine in a struck one's place", keyed(SETUP "\nZ\nE 41 1 1\n", 40, 0), PLT_ACCEPTED);
+    same("version of a struck year", journal[3], 2);
+    same("setup", key(SETUP, out, sizeof out), 13);
+    same("version of a new year", journal[3], 1);
+}
+
 int main(void) {
     calls();
+    strikes();
     refusals();
     verdicts();
     printf(failures ? "the header and the library differ\n" : "every name of the header means what the library does\n");

@@ -109,6 +109,8 @@ def prepare(folder):
 def arguments(without_rt, program, log):
     status, out, err = run(without_rt, program, '--help')
     assert status == 0 and 'Usage' in out and not err
+    with open('docs/MANUAL.md', encoding='utf-8') as f:
+        assert re.findall('^  ([A-Z]) ', out, re.M) == re.findall('^### ([A-Z]), ', f.read(), re.M), 'the help and the manual list different keys'
     for words in (['year.txt'], [''], ['--help', 'me']):
         status, out, err = run(without_rt, program, *words)
         assert status == 2 and not out and "'%s'" % words[0] in err and '< FILE' in err and '--help' in err
