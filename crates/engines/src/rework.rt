@@ -1,9 +1,12 @@
-// The figures of one pollutant computed from the arrays, at any resolution.
+// The figures of a year recomputed from its engines, at any resolution.
 ghost use mathlib.Core.Path.{_≡_};
 ghost use Prim.Native.Nat.{_+_, _<_};
 ghost use lib.ListN.{getD};
 ghost use Rattle.figures.specs.Running.{running};
-ghost use Rattle.engines.specs.Engines.{testsTo, ColumnsInRange};
+ghost use Rattle.year.specs.Setup.{Hcnox, Co};
+ghost use Rattle.year.specs.Replay.{history};
+ghost use Rattle.engines.specs.Engines.{tested, testsTo, EnginesInRange, ColumnsInRange};
+use crate::Engines;
 use figures::Running;
 use figures::add;
 use figures::start;
@@ -36,20 +39,30 @@ fn add_at(
     )
 }
 
-pub fn running_at(
-    results: [u16; MOST_ENGINES],
-    standards: [u16; MOST_ENGINES],
-    count: usize,
-    resolution: u64,
-) -> Running
-    requires { ⌜ ColumnsInRange results standards count resolution ⌝ }
-    ensures { λ r. ⌜ r ≡ running resolution (testsTo results standards count) ⌝ }
+// The figures of both pollutants.
+pub struct Reworked {
+    pub hcnox: Running,
+    pub co: Running,
+}
+
+// One loop for both: their divisions can then overlap.
+pub fn rework(e: Engines, resolution: u64) -> Reworked
+    requires { ⌜ EnginesInRange e resolution ⌝ }
+    ensures { λ r. ⌜ r .hcnox ≡ running resolution (history Hcnox (tested e)) ⌝ }
+    ensures { λ r. ⌜ r .co ≡ running resolution (history Co (tested e)) ⌝ }
 {
-    let mut f = start();
+    let count = e.count;
+    let hcnox_results = e.hcnox_results;
+    let hcnox_standards = e.hcnox_standards;
+    let co_results = e.co_results;
+    let co_standards = e.co_standards;
+    let mut hcnox = start();
+    let mut co = start();
     let mut i: usize = 0;
     while i < count {
-        f = add_at(f, results, standards, i, resolution);
+        hcnox = add_at(hcnox, hcnox_results, hcnox_standards, i, resolution);
+        co = add_at(co, co_results, co_standards, i, resolution);
         i += 1;
     }
-    f
+    Reworked { hcnox, co }
 }

@@ -2,7 +2,7 @@
 use mathlib.Core.Path.{_≡_, ap}
 use mathlib.Core.Bool.{true, false≢true}
 use mathlib.Core.List.{List, [], _∷_}
-use Prim.Native.Nat.{ℕ, _≤_, _<_}
+use Prim.Native.Nat.{ℕ, _+_, _≤_, _<_}
 use native.Mathlib.Omega.{arith}
 use lib.ListN.{length, drop}
 use Rattle.cumsum.specs.Marks.{marks, failed, undecided}
@@ -38,10 +38,10 @@ pub record Deletable (p : State) : Type 0 where
   pub current : 1 ≤ p .current
   pub rest : (e : Engines) → tested e ≡ drop 1 (tested (p .engines)) → EnginesInRange e 1024
 
--- a period whose engine is the newest has one
-some-in : (period : ℕ) (xs : List Tested) → newestIn period xs ≡ true → 1 ≤ testedIn period xs
-some-in period [] h = absurd (false≢true h)
-some-in period (x ∷ xs) h = rw h (omega arith)
+-- a period whose engine is the newest has one more than without it
+pub newest-counted : (period : ℕ) (xs : List Tested) → newestIn period xs ≡ true → testedIn period xs ≡ testedIn period (drop 1 xs) + 1
+newest-counted period [] h = absurd (false≢true h)
+newest-counted period (x ∷ xs) h = rw h (omega arith)
 
 module _ (p : State) (c : Consistent p) where
   pub counted : length (tested (p .engines)) ≡ p .engines .count
@@ -87,7 +87,7 @@ module _ (p : State) (c : Consistent p) where
 
   pub deletable : admissible (progressOf p) Deletion ≡ true → Deletable p
   deletable h =
-      let some = some-in (p .period) (tested (p .engines)) (fitting (progressOf p) Deletion h) in
+      let some = newest-counted (p .period) (tested (p .engines)) (fitting (progressOf p) Deletion h) in
       let r = after-in-range Deletion (progressOf p) (c .inRange) h in
       record {
         place = omega (arith, some, tested-in-le (p .period) (tested (p .engines)), counted);

@@ -1,5 +1,5 @@
 -- The state after a setup, and after one more event: it represents the year with that event, and what it carries is computed from that year.
-use mathlib.Core.Path.{_≡_, refl, sym, ap, subst, _∙_}
+use mathlib.Core.Path.{_≡_, refl, sym, subst}
 use mathlib.Core.Bool.{Bool, true, false}
 use mathlib.Core.List.{List, [], _∷_}
 use Prim.Native.Nat.{ℕ, _+_, _-_}
@@ -12,7 +12,7 @@ use Rattle.year.specs.declared.Setup.{Setup}
 use Rattle.year.specs.declared.Event.{Event}
 use Rattle.year.specs.declared.Event.the-variants.{Engine, Amendment, NextPeriod, Declaration, Deletion}
 use Rattle.year.specs.Setup.{setupInRange}
-use Rattle.year.specs.Replay.{Tested, Progress, start, after, testedIn, newestIn}
+use Rattle.year.specs.Replay.{Progress, start, after, testedIn}
 use Rattle.year.specs.Admissible.{admissible}
 use Rattle.year.specs.Ranges.{InRange}
 use Rattle.year.proofs.Ranges.{start-in-range, after-in-range, none-in-next, fitting}
@@ -22,6 +22,7 @@ use Rattle.engines.specs.declared.Engines.{Engines}
 use Rattle.engines.specs.Engines.{tested}
 use Rattle.progress.specs.declared.Progress.{Progress as State}
 use Rattle.progress.specs.State.{progressOf, Figured, Consistent}
+use Rattle.progress.proofs.Carried.{newest-counted}
 
 -- the state represents this year, and is consistent
 abbrev pub Represents : State → Progress → Type 0
@@ -70,11 +71,6 @@ with-engines p e current h o =
       co = o;
     }
 
--- without its newest engine a period has one less
-fewer-in : (period : ℕ) (xs : List Tested) → newestIn period xs ≡ true → testedIn period xs - 1 ≡ testedIn period (drop 1 xs)
-fewer-in period [] h = refl
-fewer-in period (x ∷ xs) h = rw h (omega arith)
-
 module _ (p : State) (c : Consistent p) where
   -- a state that shows the year with one more event represents it, if it has the count of its period's engines and the figures at 1,024
   stepped : (e : Event) → admissible (progressOf p) e ≡ true → (s : State) → progressOf s ≡ after e (progressOf p)
@@ -95,8 +91,8 @@ module _ (p : State) (c : Consistent p) where
   pub deleted : (e : Engines) (h o : Running) → admissible (progressOf p) Deletion ≡ true → tested e ≡ drop 1 (tested (p .engines)) → Figured 1024 e h o
       → Represents (with-engines p e (p .current - 1) h o) (after Deletion (progressOf p))
   deleted e h o a te f =
-      let fewer = fewer-in (p .period) (tested (p .engines)) (fitting (progressOf p) Deletion a) in
-      stepped Deletion a _ (rw te) (rw te (ap (λ n. n - 1) (c .current) ∙ fewer)) f
+      let fewer = newest-counted (p .period) (tested (p .engines)) (fitting (progressOf p) Deletion a) in
+      stepped Deletion a _ (rw te) (rw te (omega (arith, fewer, c .current))) f
 
   -- one more engine: it is among the tested, and its results are added to the figures
   pub engine : (number readings : ℕ) (results : Pair) (e : Engines) (h o : Running)

@@ -1,4 +1,4 @@
--- What the code's state represents in the definitions, and what it carries along so that nothing is computed twice.
+-- What the code's state represents in the definitions, and what it carries along from event to event.
 use mathlib.Core.Path.{_≡_}
 use Prim.Native.Nat.{ℕ}
 use Rattle.year.specs.Setup.{Hcnox, Co}

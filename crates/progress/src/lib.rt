@@ -1,14 +1,13 @@
 // The progress of a model year in code: one value that is carried from event to event. The definitions are in the crate year.
 pub mod events;
-pub mod rework;
 
 use engines::Engines;
 use figures::Running;
 use year::Pair;
 use year::Setup;
 
-// The setup, the standards in force, the current period, the tested engines, the number of stored events, whether a declaration was made. Also, computed once
-// and carried along: the number of engines in the current period, and the figures of both pollutants at resolution 1,024.
+// The setup, the standards in force, the current period, the tested engines, the number of stored events, whether a declaration was made. Also, carried
+// along so that an event need not look at all engines: the number of engines in the current period, and the figures of both pollutants at resolution 1,024.
 pub struct Progress {
     pub setup: Setup,
     pub standards: Pair,

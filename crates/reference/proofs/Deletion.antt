@@ -13,7 +13,7 @@ use Rattle.year.specs.declared.Event.the-variants.{Deletion}
 use Rattle.year.specs.Replay.{Progress, replay}
 use Rattle.year.specs.Status.{status}
 use Rattle.year.specs.Admissible.{closed, eventsFull}
-use Rattle.year.specs.Model.{Model, Year, noSetup, ofYear}
+use Rattle.year.specs.Model.{Year, noSetup, ofYear}
 use Rattle.year.specs.Deletions.{remaining, storing}
 use Rattle.year.proofs.Replayed.{replay-stored}
 use Rattle.year.proofs.Deletions.{storing-status}
@@ -25,9 +25,10 @@ use Rattle.reference.specs.declared.Answer.the-variants.{Accepted}
 use Rattle.reference.specs.Call.{Readings, EnterEngine, Form, Marks, Query, ReadStatus, Write, Call, Ask, eventOf}
 use Rattle.reference.specs.Refusals.{refusals, refusal}
 use Rattle.reference.specs.Answers.{refusalOn, journalAfter, statusOf, answer, outBytes, outAfter, outPart}
-use Rattle.reference.specs.Deletion.{entering, deleting, SameFigures, DeletionPromises}
+use Rattle.reference.specs.Deletion.{engineCall, deletionCall, SameFigures, DeletionPromises}
 use Rattle.reference.proofs.Given.{held-year, accepted-answer, accepted-year, accepted-reads, year-size, status-accepted}
 use Rattle.reference.proofs.Demand1.{demand-1}
+use Rattle.reference.proofs.Demand2.{demand-2}
 
 -- ---- what status answers on an accepted journal
 
@@ -73,15 +74,12 @@ module _ (s : Setup) (es fs : List Event) (n : ℕ) (same : replay s es ≡ stor
 
 -- ---- an accepted engine, and its accepted strike
 
-module _ (number : ℕ) (readings : Readings) (journal : List ℕ) (h : refusalOn (entering number readings) journal ≡ 0) where
-  abbrev before : Model
-  before = readJournal journal
-
+module _ (number : ℕ) (readings : Readings) (journal : List ℕ) (h : refusalOn (engineCall number readings) journal ≡ 0) where
   abbrev entered : List ℕ
-  entered = journalAfter (entering number readings) journal
+  entered = journalAfter (engineCall number readings) journal
 
   year : (s : Setup) × (es : List Event) × (readJournal journal ≡ Year s es)
-  year = held-year (readJournal journal) (accepted-year (entering number readings) journal h refl)
+  year = held-year (readJournal journal) (accepted-year (engineCall number readings) journal h refl)
 
   abbrev s : Setup
   s = year .0
@@ -93,39 +91,39 @@ module _ (number : ℕ) (readings : Readings) (journal : List ℕ) (h : refusalO
   engine = eventOf (replay s es) (EnterEngine number readings)
 
   entered-reads : readJournal entered ≡ Year s (engine ∷ es)
-  entered-reads = accepted-reads (entering number readings) journal h ∙ rw (year .2)
+  entered-reads = accepted-reads (engineCall number readings) journal h ∙ rw (year .2)
 
-  module _ (k : refusalOn deleting entered ≡ 0) where
-    left-reads : readJournal (journalAfter deleting entered) ≡ Year s (Deletion ∷ engine ∷ es)
-    left-reads = accepted-reads deleting entered k ∙ rw entered-reads
+  module _ (k : refusalOn deletionCall entered ≡ 0) where
+    left-reads : readJournal (journalAfter deletionCall entered) ≡ Year s (Deletion ∷ engine ∷ es)
+    left-reads = accepted-reads deletionCall entered k ∙ rw entered-reads
 
-    same : replay s (Deletion ∷ engine ∷ es) ≡ storing (replay s es .stored + 1 + 1) (replay s es)
-    same = refl
+    -- the events with both, and how many are stored with them
+    abbrev both : List Event
+    both = Deletion ∷ engine ∷ es
 
-    answered : answer deleting entered ≡ answer (Ask ReadStatus) journal
-    answered =
-        accepted-answer deleting entered k
-        ∙ ap (λ m. Accepted (statusOf m)) left-reads
-        ∙ ap Accepted (storing-status (replay s es .stored + 1 + 1) (replay s es) 1024)
-        ∙ sym (status-on journal s es (year .2))
+    abbrev stored : ℕ
+    stored = replay s es .stored + 1 + 1
 
-    undone : SameFigures (journalAfter deleting entered) journal
-    undone = same-figures s (Deletion ∷ engine ∷ es) es (replay s es .stored + 1 + 1) same (journalAfter deleting entered) journal left-reads (year .2)
+    undone : SameFigures (journalAfter deletionCall entered) journal
+    undone = same-figures s both es stored refl (journalAfter deletionCall entered) journal left-reads (year .2)
 
-    refused-as : getD journal 24 0 + 2 < 64 → (call : Call) → refusalOn call (journalAfter deleting entered) ≡ refusalOn call journal
+    answered : answer deletionCall entered ≡ answer (Ask ReadStatus) journal
+    answered = demand-2 .answered deletionCall entered k ∙ undone .status
+
+    refused-as : getD journal 24 0 + 2 < 64 → (call : Call) → refusalOn call (journalAfter deletionCall entered) ≡ refusalOn call journal
     refused-as room call =
-        refusal-on s (Deletion ∷ engine ∷ es) es (replay s es .stored + 1 + 1) same (journalAfter deleting entered) journal left-reads (year .2) call
-        (call-refusal s (Deletion ∷ engine ∷ es) es (replay s es .stored + 1 + 1) same (omega (arith, stored, room)) (omega (arith, stored, room)) call)
+        refusal-on s both es stored refl (journalAfter deletionCall entered) journal left-reads (year .2) call
+        (call-refusal s both es stored refl (omega (arith, count, room)) (omega (arith, count, room)) call)
       where
-        stored : replay s es .stored ≡ getD journal 24 0
-        stored = replay-stored s es ∙ sym (ap (λ b. getD b 24 0) (demand .accepted journal s es (year .2) .stored))
+        count : replay s es .stored ≡ getD journal 24 0
+        count = replay-stored s es ∙ sym (ap (λ b. getD b 24 0) (demand .accepted journal s es (year .2) .stored))
 
   -- row 17 does not apply to the engine just entered
-  next-step : refusalOn deleting entered ≡ cond (closed (replay s (engine ∷ es))) 8 (cond (eventsFull (replay s (engine ∷ es))) 9 0)
+  next-step : refusalOn deletionCall entered ≡ cond (closed (replay s (engine ∷ es))) 8 (cond (eventsFull (replay s (engine ∷ es))) 9 0)
   unfolding refusal refusals
   next-step = rw (year-size entered s (engine ∷ es) entered-reads, entered-reads, eqb-refl (replay s es .period))
 
-  next : (t : Setup) (fs : List Event) → readJournal entered ≡ Year t fs → refusalOn deleting entered ≡ cond (closed (replay t fs)) 8 (cond (eventsFull (replay t fs)) 9 0)
+  next : (t : Setup) (fs : List Event) → readJournal entered ≡ Year t fs → refusalOn deletionCall entered ≡ cond (closed (replay t fs)) 8 (cond (eventsFull (replay t fs)) 9 0)
   next t fs e = next-step ∙ ap (λ m. cond (ofYear closed m) 8 (cond (ofYear eventsFull m) 9 0)) (sym entered-reads ∙ e)
 
 -- ---- an accepted journal and the journal of its remaining events

@@ -18,6 +18,7 @@ use Rattle.conditions.proofs.Tests.{by-test, cond-same}
 use Rattle.cumsum.specs.Marks.{markByte}
 use Rattle.year.specs.declared.Setup.{Setup}
 use Rattle.year.specs.declared.Event.{Event}
+use Rattle.year.specs.declared.Event.the-variants.{Deletion}
 use Rattle.year.specs.Replay.{Progress, replay}
 use Rattle.year.specs.Setup.{judged}
 use Rattle.year.specs.Status.{yearMarks}
@@ -146,9 +147,9 @@ version-raised journal h v =
     let s = year .0 in
     let es = year .1 in
     let e = year .2 in
-    let stored = demand .appended journal s es (eventOf (replay s es) (EnterChange Delete)) e (entry-admissible (EnterChange Delete) journal s es e h) in
+    let stored = demand .appended journal s es Deletion e (entry-admissible (EnterChange Delete) journal s es e h) in
     ap versionIn (accepted-gives call journal (written call journal) journal h ∙ ap (λ m. withEntry (EnterChange Delete) m journal) e ∙ stored
-    ∙ ap (λ n. encode (raised (eventOf (replay s es) (EnterChange Delete)) n) s (eventOf (replay s es) (EnterChange Delete) ∷ es)) v)
+    ∙ ap (λ n. encode (raised Deletion n) s (Deletion ∷ es)) v)
 
 -- ---- an output: it fits if the call is accepted
 

@@ -9,6 +9,6 @@ pub mod Given
 pub mod Entering
 pub mod Demand1
 pub mod Promises
-pub mod Deletion
 pub mod Demand2
+pub mod Deletion
 pub mod Demand3

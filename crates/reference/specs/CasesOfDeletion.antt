@@ -46,10 +46,14 @@ pub record CasesOfDeletion : Type 0 where
   pub numberOfRemaining : refusal 544 engineOne (yearOf (Deletion ∷ engine 2 998 ∷ engine 1 998 ∷ [])) ≡ 10
   -- a strike can make the period short again
   pub shortAgain : refusal 544 (changing BeginPeriod) (Year (setupOf 5000 1000) (Deletion ∷ engine 2 1000 ∷ engine 1 1000 ∷ [])) ≡ 15
+  -- 17 is the strike's alone: a next period without an engine is refused by 15
+  pub periodOfNone : refusal 544 (changing BeginPeriod) (yearOf []) ≡ 15
+  pub periodAfterPeriod : refusal 544 (changing BeginPeriod) (Year (setupOf 5000 1000) (NextPeriod ∷ engine 2 1000 ∷ engine 1 1000 ∷ [])) ≡ 15
   -- "The 40 counts remaining engines": a forty-first after a strike
   pub engineOf41 : refusal 544 (entering 41 (1 ∷ []) (1 ∷ [])) (yearOf (Deletion ∷ enginesTo 40)) ≡ 0
   -- on bytes: the first strike writes its slot, byte 24 and byte 3, a second one leaves byte 3; a refused one writes nothing
-  pub strikeWrites : journalAfter strike (encode 1 (setupOf 5000 800) (engine 1 998 ∷ [])) ≡ set (set (set (encode 1 (setupOf 5000 800) (engine 1 998 ∷ [])) 40 5) 24 2) 3 2
+  pub strikeWrites : journalAfter strike (encode 1 (setupOf 5000 800) (engine 1 998 ∷ []))
+      ≡ set (set (set (encode 1 (setupOf 5000 800) (engine 1 998 ∷ [])) 40 5) 24 2) 3 2
   pub secondWrites : journalAfter strike (encode 2 (setupOf 5000 800) (engine 1 998 ∷ Deletion ∷ engine 1 998 ∷ []))
       ≡ set (set (encode 2 (setupOf 5000 800) (engine 1 998 ∷ Deletion ∷ engine 1 998 ∷ [])) 56 5) 24 4
   pub refusedLeaves : journalAfter strike (encode 1 (setupOf 5000 800) []) ≡ encode 1 (setupOf 5000 800) []
@@ -57,6 +61,7 @@ pub record CasesOfDeletion : Type 0 where
   -- it answers with the status without the engine
   pub strikeAnswer : answer strike (encode 1 (setupOf 5000 800) (engine 1 998 ∷ [])) ≡ Accepted noStatus
   -- in a list of calls; a new setup starts over in version 1
-  pub modelStruck : modelOf (strike ∷ changing (Amend (pair 700 6100)) ∷ engineOne ∷ newYear ∷ []) ≡ yearOf (Deletion ∷ Amendment (pair 700 6100) ∷ engine 1 998 ∷ [])
+  pub modelStruck : modelOf (strike ∷ changing (Amend (pair 700 6100)) ∷ engineOne ∷ newYear ∷ [])
+      ≡ yearOf (Deletion ∷ Amendment (pair 700 6100) ∷ engine 1 998 ∷ [])
   pub journalStruck : journalOf (strike ∷ strike ∷ engineOne ∷ newYear ∷ []) ≡ encode 2 (setupOf 5000 800) (Deletion ∷ engine 1 998 ∷ [])
   pub journalAnew : journalOf (newYear ∷ strike ∷ engineOne ∷ newYear ∷ []) ≡ encode 1 (setupOf 5000 800) []

@@ -17,11 +17,11 @@ use Rattle.reference.specs.declared.Change.the-variants.{Delete}
 use Rattle.reference.specs.Call.{Readings, EnterEngine, EnterChange, Form, ReadStatus, Call, Enter, Ask}
 use Rattle.reference.specs.Answers.{refusalOn, journalAfter, answer, outAfter, outPart, outputAnswer}
 
-abbrev pub entering : ℕ → Readings → Call
-entering number readings = Enter (EnterEngine number readings)
+abbrev pub engineCall : ℕ → Readings → Call
+engineCall number readings = Enter (EnterEngine number readings)
 
-abbrev pub deleting : Call
-deleting = Enter (EnterChange Delete)
+abbrev pub deletionCall : Call
+deletionCall = Enter (EnterChange Delete)
 
 -- two journals on which status answers the same, and each output is the same, in every lent buffer
 pub record SameFigures (a b : List ℕ) : Type 0 where
@@ -35,18 +35,18 @@ pub record DeletionPromises : Type 0 where
   pub figures : (journal : List ℕ) (s : Setup) (es : List Event) → readJournal journal ≡ Year s es
       → (readJournal (encode 1 s (remaining es)) ≡ Year s (remaining es)) × SameFigures journal (encode 1 s (remaining es))
   -- an accepted engine and its accepted strike: the strike answers what status answered before the engine
-  pub answered : (number : ℕ) (readings : Readings) (journal : List ℕ) → refusalOn (entering number readings) journal ≡ 0
-      → refusalOn deleting (journalAfter (entering number readings) journal) ≡ 0
-      → answer deleting (journalAfter (entering number readings) journal) ≡ answer (Ask ReadStatus) journal
+  pub answered : (number : ℕ) (readings : Readings) (journal : List ℕ) → refusalOn (engineCall number readings) journal ≡ 0
+      → refusalOn deletionCall (journalAfter (engineCall number readings) journal) ≡ 0
+      → answer deletionCall (journalAfter (engineCall number readings) journal) ≡ answer (Ask ReadStatus) journal
   -- status and marks are then what they were
-  pub undone : (number : ℕ) (readings : Readings) (journal : List ℕ) → refusalOn (entering number readings) journal ≡ 0
-      → refusalOn deleting (journalAfter (entering number readings) journal) ≡ 0
-      → SameFigures (journalAfter deleting (journalAfter (entering number readings) journal)) journal
+  pub undone : (number : ℕ) (readings : Readings) (journal : List ℕ) → refusalOn (engineCall number readings) journal ≡ 0
+      → refusalOn deletionCall (journalAfter (engineCall number readings) journal) ≡ 0
+      → SameFigures (journalAfter deletionCall (journalAfter (engineCall number readings) journal)) journal
   -- and so is the refusal of every call, as long as two slots fewer are enough: "The engine number is free again", the period can be short again
-  pub refusals : (number : ℕ) (readings : Readings) (journal : List ℕ) → refusalOn (entering number readings) journal ≡ 0
-      → refusalOn deleting (journalAfter (entering number readings) journal) ≡ 0 → getD journal 24 0 + 2 < 64
-      → (call : Call) → refusalOn call (journalAfter deleting (journalAfter (entering number readings) journal)) ≡ refusalOn call journal
+  pub refusals : (number : ℕ) (readings : Readings) (journal : List ℕ) → refusalOn (engineCall number readings) journal ≡ 0
+      → refusalOn deletionCall (journalAfter (engineCall number readings) journal) ≡ 0 → getD journal 24 0 + 2 < 64
+      → (call : Call) → refusalOn call (journalAfter deletionCall (journalAfter (engineCall number readings) journal)) ≡ refusalOn call journal
   -- a strike right after an accepted engine is refused by 8 if the year has failed, by 9 if the engine took the last slot, and by nothing else
-  pub next : (number : ℕ) (readings : Readings) (journal : List ℕ) → refusalOn (entering number readings) journal ≡ 0
-      → (s : Setup) (es : List Event) → readJournal (journalAfter (entering number readings) journal) ≡ Year s es
-      → refusalOn deleting (journalAfter (entering number readings) journal) ≡ cond (closed (replay s es)) 8 (cond (eventsFull (replay s es)) 9 0)
+  pub next : (number : ℕ) (readings : Readings) (journal : List ℕ) → refusalOn (engineCall number readings) journal ≡ 0
+      → (s : Setup) (es : List Event) → readJournal (journalAfter (engineCall number readings) journal) ≡ Year s es
+      → refusalOn deletionCall (journalAfter (engineCall number readings) journal) ≡ cond (closed (replay s es)) 8 (cond (eventsFull (replay s es)) 9 0)

@@ -16,7 +16,8 @@ pub record CasesOfDeletion : Type 0 where
   -- Z at once after E: the year is as before, with two slots in use
   pub atOnce : replay (setupOf 5000 800) (Deletion ∷ engine 1 998 ∷ []) ≡ storing 2 (start (setupOf 5000 800))
   -- it is the newest engine that goes: engine 1 stays, and its figures with it
-  pub newestGoes : status 1024 (replay (setupOf 5000 800) (Deletion ∷ engine 2 1071 ∷ engine 1 998 ∷ [])) ≡ record { n = 1; verdict = 0; hcnox = onlySum 998; co = onlySum 5000 }
+  pub newestGoes : status 1024 (replay (setupOf 5000 800) (Deletion ∷ engine 2 1071 ∷ engine 1 998 ∷ []))
+      ≡ record { n = 1; verdict = 0; hcnox = onlySum 998; co = onlySum 5000 }
   -- twice
   pub twice : replay (setupOf 5000 800) (Deletion ∷ Deletion ∷ engine 2 1071 ∷ engine 1 998 ∷ []) ≡ storing 4 (start (setupOf 5000 800))
   -- "amendments since are kept": the next engine is under the amended standard
@@ -24,7 +25,8 @@ pub record CasesOfDeletion : Type 0 where
       ≡ record { result = 900; standard = 700 } ∷ []
   pub remainingEvents : remaining (engine 1 900 ∷ Deletion ∷ Amendment (pair 700 6100) ∷ engine 1 998 ∷ []) ≡ engine 1 900 ∷ Amendment (pair 700 6100) ∷ []
   -- the last engine entered, and its strike, leave no trace: T in N is 1,000 again, under which engine 2 was entered, and not 10; N is 1, verdict 2
-  pub sizeOfRemaining : status 1024 (replay (setupOf 1500 1000) (Deletion ∷ engine 3 800 ∷ Amendment (pair 10 10) ∷ engine 2 800 ∷ engine 1 800 ∷ [])) .hcnox .size ≡ Tenths 10
+  pub sizeOfRemaining : status 1024 (replay (setupOf 1500 1000) (Deletion ∷ engine 3 800 ∷ Amendment (pair 10 10) ∷ engine 2 800 ∷ engine 1 800 ∷ [])) .hcnox .size
+      ≡ Tenths 10
   pub verdictOfRemaining : verdict 1024 (replay (setupOf 1500 1000) (Deletion ∷ engine 3 800 ∷ Amendment (pair 10 10) ∷ engine 2 800 ∷ engine 1 800 ∷ [])) ≡ 2
   -- a strike can make the period short again
   pub shortAgain : verdict 1024 (replay (setupOf 5000 1000) (Deletion ∷ engine 2 1000 ∷ engine 1 1000 ∷ [])) ≡ 0
