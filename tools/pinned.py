@@ -45,6 +45,10 @@ def changes(line, start):
             for m in re.finditer(before + re.escape(old) + word, line):
                 if m.start() >= start:
                     yield f"{old.strip()} to {new.strip()}", line[: m.start()] + new + line[m.end():]
+    # a test of one kind of call that is false for another kind
+    kind = re.match(r"\w+ test \(?\w.* = (false)$", line)
+    if kind:
+        yield "false to the test", line[: kind.start(1)] + "test"
     for m in re.finditer(r"\bnot \(", line):
         if m.start() >= start:
             yield "not dropped", line[: m.start()] + "(" + line[m.end():]

@@ -51,6 +51,7 @@ cases-of-deletion =
       numberAgain = refl;
       numberOfRemaining = refl;
       shortAgain = refl;
+      amendmentOfNone = refl;
       periodOfNone = refl;
       periodAfterPeriod = simp deviation-none;
       engineOf41 = engine-of-41;

@@ -46,7 +46,8 @@ pub record CasesOfDeletion : Type 0 where
   pub numberOfRemaining : refusal 544 engineOne (yearOf (Deletion ∷ engine 2 998 ∷ engine 1 998 ∷ [])) ≡ 10
   -- a strike can make the period short again
   pub shortAgain : refusal 544 (changing BeginPeriod) (Year (setupOf 5000 1000) (Deletion ∷ engine 2 1000 ∷ engine 1 1000 ∷ [])) ≡ 15
-  -- 17 is the strike's alone: a next period without an engine is refused by 15
+  -- 17 is the strike's alone: with no engine an amendment is accepted, and a next period is refused by 15
+  pub amendmentOfNone : refusal 544 (changing (Amend (pair 700 6100))) (yearOf []) ≡ 0
   pub periodOfNone : refusal 544 (changing BeginPeriod) (yearOf []) ≡ 15
   pub periodAfterPeriod : refusal 544 (changing BeginPeriod) (Year (setupOf 5000 1000) (NextPeriod ∷ engine 2 1000 ∷ engine 1 1000 ∷ [])) ≡ 15
   -- "The 40 counts remaining engines": a forty-first after a strike
