@@ -28,8 +28,8 @@ setupIn journal =
           };
     }
 
--- the event in the slot at the front of a part of the journal. Any kind other than 1, 2, 3 and 5 is
--- decoded as 4, and accepted only if it is 4
+-- the event in the slot at the front of a part of the journal. Any kind other than 1, 2, 3 and 5 is decoded as 4, and accepted only if
+-- it is 4
 abbrev pub eventIn : List ℕ → Event
 eventIn part =
     cond (eqb (getD part 0 0) 1)

@@ -11,16 +11,19 @@ use Rattle.cumsum.specs.declared.Mark.the-variants.{Unmarked, Over, Under, Unde
 use Rattle.cumsum.specs.Marks.{markByte}
 use Rattle.year.specs.declared.Setup.{Setup}
 use Rattle.year.specs.declared.Event.{Event}
-use Rattle.year.specs.Replay.{replay}
+use Rattle.year.specs.declared.Status.{Status}
+use Rattle.year.specs.Replay.{Progress, replay}
 use Rattle.year.specs.Model.{NoSetup, Year, noSetup}
 use Rattle.year.specs.FinerWork.{FinerWork}
+use Rattle.year.specs.Work.{cumsumAt, limitAt}
 use Rattle.year.proofs.Finer.{finer-work}
+use Rattle.year.proofs.Remaining.{deletions}
 use Rattle.journal.specs.Read.{readJournal}
 use Rattle.reference.specs.Call.{Marks, ReadStatus, Write, Call, Ask}
 use Rattle.reference.specs.Answers.{refusalOn, answer, outBytes, outPart}
 use Rattle.reference.specs.Model.{modelOf, journalOf}
 use Rattle.reference.specs.Demand2.{Shows}
-use Rattle.reference.specs.Demand3.{statusOn, Calculated, FinerJournal, BeforeSetup, AfterCalls, Demand3}
+use Rattle.reference.specs.Demand3.{statusOn, Calculated, FinerJournal, OfRemaining, BeforeSetup, AfterCalls, Demand3}
 use Rattle.reference.proofs.Stored.{stored-calls}
 use Rattle.reference.proofs.WithSetup.{model-has-setup, model-has-none}
 use Rattle.reference.proofs.Given.{accepted-gives, held-year, year-size, status-accepted, marks-accepted, status-none, marks-none}
@@ -95,5 +98,16 @@ mark-of Undecided = refl
 told-apart : (a b : Mark) → markByte a ≡ markByte b → a ≡ b
 told-apart a b e = sym (mark-of a) ∙ ap markOf e ∙ mark-of b
 
+-- work at m looks at no number of stored events
+of-remaining : (m : ℕ) (s : Setup) (es : List Event) → OfRemaining m s es
+of-remaining m s es =
+    let year = deletions s es .year in
+    record {
+      marks = deletions s es .marks (1024 * m);
+      verdict = ap (λ (x : Status). x .verdict) (deletions s es .status (1024 * m));
+      cumsum = λ n q. ap (λ (p : Progress). cumsumAt m p n q) year;
+      limit = λ n q. ap (λ (p : Progress). limitAt m p n q) year;
+    }
+
 pub demand-3 : Demand3
-demand-3 = record { apart = told-apart; lists = after-calls; others = finer-journal }
+demand-3 = record { apart = told-apart; lists = after-calls; others = finer-journal; struck = of-remaining }

@@ -10,9 +10,9 @@ use Rattle.rounding.specs.Result.{countInRange}
 use Rattle.year.specs.declared.Setup.{Setup}
 use Rattle.year.specs.declared.Event.{Event}
 use Rattle.year.specs.Replay.{Progress, replay, short, isTested}
-use Rattle.year.specs.Admissible.{closed, eventsFull, enginesFull, numberInRange, resultsInRange, lastPeriod, fits, admissible}
+use Rattle.year.specs.Admissible.{enginesFull, numberInRange, resultsInRange, lastPeriod, admissible}
 use Rattle.year.specs.Model.{Year}
-use Rattle.year.proofs.Ranges.{fitting}
+use Rattle.year.proofs.Ranges.{open-year, fitting}
 use Rattle.journal.specs.Read.{readJournal}
 use Rattle.reference.specs.Call.{Entry, EnterEngine, EnterChange, Enter, resultsOf, eventOf}
 use Rattle.reference.specs.declared.Change.the-variants.{Amend, BeginPeriod, Declare, Delete}
@@ -25,18 +25,11 @@ module _ (journal : List ℕ) (s : Setup) (es : List Event) (e : readJournal jou
   abbrev p : Progress
   p = replay s es
 
-  -- if an event is admissible, refusals 8 and 9 do not apply
-  open-year : (event : Event) → admissible p event ≡ true → (closed p ≡ false) × (eventsFull p ≡ false)
-  unfolding admissible
-  open-year event a =
-      let both = and-eq-true-iff (not (closed p)) (not (eventsFull p)) .0 (and-eq-true-iff (not (closed p) && not (eventsFull p)) (fits p event) .0 a .0) in
-      (not-true (closed p) (both .0), not-true (eventsFull p) (both .1))
-
   pub could-enter : (entry : Entry) → admissible (replay s es) (eventOf (replay s es) entry) ≡ true → unreadable entry ≡ false → refusalOn (Enter entry) journal ≡ 0
   unfolding refusal refusals
   could-enter (EnterEngine number readings) a r =
       let event = eventOf p (EnterEngine number readings) in
-      let running = open-year event a in
+      let running = open-year p event a in
       let new = not (isTested number (p .tested)) in
       let count = countInRange (length (readings .hcnox)) in
       let result = resultsInRange (resultsOf (p .setup) readings) in
@@ -58,14 +51,14 @@ module _ (journal : List ℕ) (s : Setup) (es : List Event) (e : readJournal jou
       )
   could-enter (EnterChange (Amend standards)) a r =
       let event = eventOf p (EnterChange (Amend standards)) in
-      let running = open-year event a in
+      let running = open-year p event a in
       rw (year-size journal s es e, e, running .0, running .1, fitting p event a)
   could-enter (EnterChange BeginPeriod) a r =
       let event = eventOf p (EnterChange BeginPeriod) in
-      let running = open-year event a in
+      let running = open-year p event a in
       rw (year-size journal s es e, e, running .0, running .1, not-true (lastPeriod p || short p) (fitting p event a))
-  could-enter (EnterChange Declare) a r = let running = open-year (eventOf p (EnterChange Declare)) a in rw (year-size journal s es e, e, running .0, running .1)
+  could-enter (EnterChange Declare) a r = let running = open-year p (eventOf p (EnterChange Declare)) a in rw (year-size journal s es e, e, running .0, running .1)
   could-enter (EnterChange Delete) a r =
       let event = eventOf p (EnterChange Delete) in
-      let running = open-year event a in
+      let running = open-year p event a in
       rw (year-size journal s es e, e, running .0, running .1, fitting p event a)

@@ -14,10 +14,11 @@ use Rattle.rounding.specs.Result.{countInRange}
 use Rattle.year.specs.declared.Setup.{Setup}
 use Rattle.year.specs.declared.Event.{Event}
 use Rattle.year.specs.Setup.{standardsInRange, productionInRange, factorsInRange, setupInRange}
-use Rattle.year.specs.Replay.{Progress, replay, isTested}
-use Rattle.year.specs.Admissible.{closed, eventsFull, numberInRange, resultsInRange, fits, admissible, valid}
+use Rattle.year.specs.Replay.{replay, isTested}
+use Rattle.year.specs.Admissible.{numberInRange, resultsInRange, fits, admissible, valid}
 use Rattle.year.specs.Model.{Model, NoSetup, Year}
 use Rattle.year.proofs.Valid.{valid-next}
+use Rattle.year.proofs.Ranges.{admitted-by}
 use Rattle.reference.specs.Call.{Readings, Entry, EnterEngine, EnterChange, Call, SetUp, Enter, Ask, resultsOf, eventOf}
 use Rattle.reference.specs.declared.Change.the-variants.{Amend, BeginPeriod, Declare, Delete}
 use Rattle.reference.specs.Refusals.{refusals, refusal}
@@ -32,11 +33,6 @@ pub not-refused : (size : ℕ) (call : Call) (model : Model) → refusal size ca
 unfolding refusal
 not-refused size call model h r =
     none-applies (refusals size call model) r (first-none (refusals size call model) (refusals-numbered size call model) h)
-
--- an event is admissible if 8 and 9 do not apply and it meets the conditions of its kind
-admissible-by : (p : Progress) (e : Event) → closed p ≡ false → eventsFull p ≡ false → fits p e ≡ true → admissible p e ≡ true
-unfolding admissible
-admissible-by p e running room fit = and-true (and-true (false-not running) (false-not room)) fit
 
 module _ (s : Setup) (es : List Event) where
   -- if an entry is not refused, the row with number r does not apply to it
@@ -64,7 +60,7 @@ module _ (s : Setup) (es : List Event) where
   -- the event of an accepted entry is admissible
   pub admitted : (entry : Entry) → refusal 544 (Enter entry) (Year s es) ≡ 0 → admissible (replay s es) (eventOf (replay s es) entry) ≡ true
   unfolding refusals
-  admitted entry h = admissible-by (replay s es) (eventOf (replay s es) entry) (no entry h 8) (no entry h 9) (entry-fits entry h)
+  admitted entry h = admitted-by (replay s es) (eventOf (replay s es) entry) (no entry h 8) (no entry h 9) (entry-fits entry h)
 
 -- so a model's year remains one that could have been entered
 abbrev pub ValidModel : Model → Type 0

@@ -1,4 +1,5 @@
--- Demand 3: finer work compared with what the calls give, after every list of calls on one journal that starts all zero, and on every accepted journal.
+-- Demand 3: finer work compared with what the calls give, after every list of calls on one journal that starts all zero, and on every accepted journal. Strikes
+-- stand in the lists, and the engines are those that remain (document 02, W-201).
 use mathlib.Core.Path.{_≡_}
 use mathlib.Core.Bool.{true, false}
 use mathlib.Core.List.{List, map, reverse}
@@ -15,6 +16,7 @@ use Rattle.year.specs.Replay.{replay}
 use Rattle.year.specs.Model.{Year}
 use Rattle.year.specs.Work.{marksAt, verdictAt, cumsumAt, limitAt}
 use Rattle.year.specs.FinerWork.{FinerWork}
+use Rattle.year.specs.Deletions.{remaining}
 use Rattle.journal.specs.Read.{readJournal}
 use Rattle.reference.specs.declared.Answer.the-variants.{Refused}
 use Rattle.reference.specs.Call.{Marks, ReadStatus, Write, Call, Ask}
@@ -49,6 +51,13 @@ pub record FinerJournal (m : ℕ) (journal : List ℕ) (s : Setup) (es : List Ev
   -- the marks at m = 1 and at m, the verdicts, the brackets of every engine and their widths
   pub finer : FinerWork m (replay s es)
 
+-- "the marks at finer work are now of the remaining engines" (document 02, W-201): work at m is that of the events without strikes and struck engines
+pub record OfRemaining (m : ℕ) (s : Setup) (es : List Event) : Type 0 where
+  pub marks : marksAt m (replay s es) ≡ marksAt m (replay s (remaining es))
+  pub verdict : verdictAt m (replay s es) ≡ verdictAt m (replay s (remaining es))
+  pub cumsum : (n : ℕ) (q : Pollutant) → cumsumAt m (replay s es) n q ≡ cumsumAt m (replay s (remaining es)) n q
+  pub limit : (n : ℕ) (q : Pollutant) → limitAt m (replay s es) n q ≡ limitAt m (replay s (remaining es)) n q
+
 -- "Before an accepted setup, status and strip are refused by 7."
 pub record BeforeSetup (journal : List ℕ) : Type 0 where
   pub status : answer (Ask ReadStatus) journal ≡ Refused 7
@@ -75,3 +84,4 @@ pub record Demand3 : Type 0 where
   pub lists : (calls : List Call) (m : ℕ) → 1 ≤ m → AfterCalls calls m
   -- "this holds for every other accepted book too": "its strip is compared with the marks at m of the setup and list that it reads back as"
   pub others : (journal : List ℕ) (s : Setup) (es : List Event) → readJournal journal ≡ Year s es → (m : ℕ) → 1 ≤ m → FinerJournal m journal s es
+  pub struck : (m : ℕ) (s : Setup) (es : List Event) → OfRemaining m s es

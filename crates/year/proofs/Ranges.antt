@@ -1,6 +1,6 @@
 -- Every list of events that could have been entered keeps the year in its ranges.
 use mathlib.Core.Path.{_≡_, refl}
-use mathlib.Core.Bool.{Bool, true, not, _&&_, _||_, and-eq-true-iff}
+use mathlib.Core.Bool.{Bool, true, false, not, _&&_, _||_, and-eq-true-iff}
 use mathlib.Core.List.{List, [], _∷_}
 use Prim.Native.Nat.{ℕ, _+_, _%_, _≤_, _<_}
 use native.Mathlib.Nat.{le-refl}
@@ -85,12 +85,20 @@ start-in-range s h =
       histories = λ q. record { few = omega arith; tests = tt };
     }
 
--- an admissible event: fewer than 64 events are stored before it, and it fits
+-- an event is admissible exactly if the year is open, a slot is free, and the event fits
+pub admitted-by : (p : Progress) (e : Event) → closed p ≡ false → eventsFull p ≡ false → fits p e ≡ true → admissible p e ≡ true
+unfolding admissible
+admitted-by p e running room fit = rw (running, room, fit)
+
 module _ (p : Progress) (e : Event) (h : admissible p e ≡ true) where
-  pub not-full : p .stored < 64
+  pub open-year : (closed p ≡ false) × (eventsFull p ≡ false)
   unfolding admissible
-  not-full =
-      leb-false 64 (p .stored) (not-true (eventsFull p) (right (not (closed p)) (not (eventsFull p)) (left (not (closed p) && not (eventsFull p)) (fits p e) h)))
+  open-year =
+      let both = and-eq-true-iff (not (closed p)) (not (eventsFull p)) .0 (left (not (closed p) && not (eventsFull p)) (fits p e) h) in
+      (not-true (closed p) (both .0), not-true (eventsFull p) (both .1))
+
+  pub not-full : p .stored < 64
+  not-full = leb-false 64 (p .stored) (open-year .1)
 
   pub fitting : fits p e ≡ true
   unfolding admissible

@@ -1,11 +1,11 @@
 -- The events that remain could have been entered by themselves: no deletion is among them, and each was admissible after those before it.
 use mathlib.Core.Path.{_≡_, refl, sym, ap, _∙_}
-use mathlib.Core.Bool.{true, false, not, _&&_, true≢false, false≢true, and-eq-true-iff}
+use mathlib.Core.Bool.{true, false, true≢false, false≢true}
 use mathlib.Core.List.{List, [], _∷_}
-use Prim.Native.Nat.{ℕ, _+_, _≤_, _<_}
+use Prim.Native.Nat.{ℕ, _+_, _≤_}
 use native.Mathlib.Omega.{arith}
 use lib.ListN.{length, drop}
-use borrow.Author.Tests.{lt-leb, not-true, ne-eqb}
+use borrow.Author.Tests.{lt-leb, ne-eqb}
 use Rattle.conditions.proofs.Tests.{by-test, or-false}
 use Rattle.cumsum.specs.Marks.{mark, marks, bothOver, consecutive, failed}
 use Rattle.year.specs.declared.Setup.{Setup}
@@ -15,12 +15,12 @@ use Rattle.year.specs.Setup.{Pollutant, Hcnox, Co}
 use Rattle.year.specs.Replay.{Tested, Progress, after, replay, history, newestIn}
 use Rattle.year.specs.Verdict.{verdict}
 use Rattle.year.specs.Status.{status, yearMarks}
-use Rattle.year.specs.Admissible.{closed, eventsFull, fits, admissible, valid}
+use Rattle.year.specs.Admissible.{closed, fits, admissible, valid}
 use Rattle.year.specs.Deletions.{isEngine, isDeletion, hasDeletion, withoutNewest, remaining, storing, Deletions}
 use Rattle.year.specs.Ranges.{PeriodsUpTo}
 use Rattle.year.proofs.Replayed.{replay-stored}
 use Rattle.year.proofs.Valid.{valid-before, valid-newest, valid-next}
-use Rattle.year.proofs.Ranges.{not-full, fitting, valid-in-range}
+use Rattle.year.proofs.Ranges.{admitted-by, open-year, not-full, fitting, valid-in-range}
 use Rattle.year.proofs.Closed.{closed-is}
 use Rattle.year.proofs.Deletions.{is-deletion, storing-status, deleted, of-remaining}
 
@@ -77,20 +77,9 @@ storing-fits n p NextPeriod = refl
 storing-fits n p Declaration = refl
 storing-fits n p Deletion = refl
 
--- an event is admissible exactly if the year is open, a slot is free, and the event fits
-admitted : (p : Progress) (e : Event) → closed p ≡ false → p .stored < 64 → fits p e ≡ true → admissible p e ≡ true
-unfolding admissible
-admitted p e c n f = rw (c, lt-leb 64 (p .stored) n, f)
-
-admitted-open : (p : Progress) (e : Event) → admissible p e ≡ true → closed p ≡ false
-unfolding admissible
-admitted-open p e h =
-    let t = and-eq-true-iff (not (closed p) && not (eventsFull p)) (fits p e) .0 h .0 in
-    not-true (closed p) (and-eq-true-iff (not (closed p)) (not (eventsFull p)) .0 t .0)
-
 fewer-stored : (n : ℕ) (p : Progress) (e : Event) → p .stored ≤ n → admissible (storing n p) e ≡ true → admissible p e ≡ true
 fewer-stored n p e le h =
-    admitted p e (sym (storing-closed n p) ∙ admitted-open (storing n p) e h) (omega (arith, not-full (storing n p) e h))
+    admitted-by p e (sym (storing-closed n p) ∙ open-year (storing n p) e h .0) (lt-leb 64 (p .stored) (omega (arith, not-full (storing n p) e h)))
     (sym (storing-fits n p e) ∙ fitting (storing n p) e h)
 
 -- ---- so the remaining events could have been entered
@@ -110,13 +99,13 @@ module _ (s : Setup) where
       let e = Amendment standards in
       let p = replay s es in
       let a = valid-newest s e es v in
-      let o = admitted-open p e a in
+      let o = open-year p e a .0 in
       let fewer = replay s (withoutNewest es) in
       let same : closed fewer ≡ closed (after Deletion p)
       = sym (storing-closed 0 fewer) ∙ ap closed (sym (deleted s 0 es)) ∙ storing-closed 0 (after Deletion p) in
       valid-next s e (withoutNewest es) (without-valid es none (valid-before s e es v) newest o)
-      (admitted fewer e (same ∙ open-fewer p o)
-      (omega (arith, not-full p e a, replay-stored s es, replay-stored s (withoutNewest es), length-without es)) (fitting p e a))
+      (admitted-by fewer e (same ∙ open-fewer p o)
+      (lt-leb 64 (fewer .stored) (omega (arith, not-full p e a, replay-stored s es, replay-stored s (withoutNewest es), length-without es))) (fitting p e a))
   without-valid (NextPeriod ∷ es) none v newest still =
       let p = replay s es in
       absurd (false≢true (sym (not-later (p .period) (p .tested) (valid-in-range s es (valid-before s NextPeriod es v) .periods)) ∙ newest))
@@ -142,7 +131,7 @@ module _ (s : Setup) where
       struck : valid s (remaining es) ≡ true → admissible (replay s (remaining es)) Deletion ≡ true → valid s (withoutNewest (remaining es)) ≡ true
       struck w a =
           let p = replay s (remaining es) in
-          without-valid (remaining es) (none-remains es) w (fitting p Deletion a) (admitted-open p Deletion a)
+          without-valid (remaining es) (none-remains es) w (fitting p Deletion a) (open-year p Deletion a .0)
 
 pub deletions : (s : Setup) (es : List Event) → Deletions s es
 deletions s es =
