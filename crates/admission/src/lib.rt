@@ -1,4 +1,6 @@
 // Whether an event could be entered.
+#![tactic(auto)]
+
 ghost use Rattle.std.specs.Prelude.{◌≡◌};
 ghost use Rattle.year.specs.Admissible.{number_in_range, results_in_range, fits, admissible};
 ghost use Rattle.progress.specs.State.{progress_of, Consistent};

@@ -1,4 +1,6 @@
 // An answer as numbers in a lent slice: its refusal, and the twenty figures of its status.
+#![tactic(auto)]
+
 ghost use Rattle.std.specs.Prelude.{◌≡◌, ◌≤◌, length};
 ghost use Rattle.buffers.specs.Bytes.{put};
 ghost use Rattle.reference.specs.Answers.{outcome_of, no_status};

@@ -1,4 +1,6 @@
 // The calculator: key lines from standard input, replies to standard output.
+#![tactic(auto)]
+
 use terminal::serve;
 
 fn main() {

@@ -1,5 +1,7 @@
 // A test program: lists of public calls from standard input, one per line, and what each call answers, with a digest of the journal after it. Input and
 // expected output are made by tools/call_lists.py, which works from documents 01 and 02 alone and describes the line format.
+#![tactic(auto)]
+
 ghost use Rattle.std.specs.Prelude.{◌≡◌, ◌≤◌, ◌<◌, length};
 
 use crate::calling::obey;

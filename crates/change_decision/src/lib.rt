@@ -1,4 +1,6 @@
 // The decision on a change: the event that it adds, or the number of its refusal. Nothing is written.
+#![tactic(auto)]
+
 ghost use Rattle.std.specs.Prelude.{◌≡◌, not};
 ghost use Rattle.year.specs.Setup.{standards_in_range};
 ghost use Rattle.progress.specs.State.{progress_of, Consistent};

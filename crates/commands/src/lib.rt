@@ -1,5 +1,7 @@
 // The key line on a lent journal: the call that a line asks for is made, and its reply is written. There is no precondition on what is lent, and the contract
 // gives every byte of it.
+#![tactic(auto)]
+
 ghost use Rattle.std.specs.Prelude.{◌≡◌, ◌≤◌, ◌<◌, length};
 ghost use Rattle.buffers.specs.Bytes.{put};
 ghost use Rattle.replies.specs.Replied.{Replied};

@@ -1,5 +1,7 @@
 // Conditions: a range test, two tests combined, and one row of a table in which the first row that applies wins. (`both` and `either` are functions because the
 // prover loses what it knows of a test once `&&` or `||` combines it in a local.)
+#![tactic(auto)]
+
 ghost use Rattle.std.specs.Prelude.{◌≡◌, cond, ◌&&◌, ◌||◌};
 ghost use Rattle.conditions.specs.Ranges.{within};
 

@@ -1,4 +1,6 @@
 // The input as it arrives, byte by byte: a line is held until its newline, and then answered.
+#![tactic(auto)]
+
 mod holding;
 
 ghost use Rattle.std.specs.Prelude.{◌≡◌, [], ◌∷◌, ◌++◌, min, length, take};

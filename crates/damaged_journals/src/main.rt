@@ -1,6 +1,8 @@
 // A test program: journals from standard input, each with every byte changed, at every other length up to 560, with slots exchanged and with other numbers of
 // events. It prints how many of the damaged buffers are accepted, and a digest of which. Input and expected output are made by tools/damaged_journals.py, which
 // works from documents 01 and 02 alone.
+#![tactic(auto)]
+
 ghost use Rattle.std.specs.Prelude.{◌≡◌, length};
 
 use crate::damage::{accepts, bytes, filled, lengths, slots};

@@ -1,4 +1,6 @@
 // Making the call of a request, and writing the reply to it.
+#![tactic(auto)]
+
 ghost use Rattle.std.specs.Prelude.{◌≡◌, ◌≤◌, length};
 ghost use Rattle.reference.specs.Call.{Marks, Write, Enter};
 ghost use Rattle.reference.specs.Answers.{journal_after, answer};

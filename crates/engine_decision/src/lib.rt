@@ -1,4 +1,6 @@
 // The decision on an engine: the event with the results computed from its readings, or the number of its refusal. Nothing is written.
+#![tactic(auto)]
+
 mod readings;
 
 ghost use Rattle.std.specs.Prelude.{◌≡◌};

@@ -1,4 +1,6 @@
 // The tested engines of a year in code: arrays of up to 40, in order of entry, and what is computed from them.
+#![tactic(auto)]
+
 pub mod lookup;
 pub mod rework;
 pub mod store;

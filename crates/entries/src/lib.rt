@@ -1,6 +1,8 @@
 // The public calls that write the journal: setup, and the entries of an engine and of a change. None has a precondition, on its arguments or on lent buffers.
 // Each contract gives the whole answer (its value, which fixes the enum case, and its refusal number and figures as in the specification, `outcome`) and every
 // byte of each buffer that the call may write, refused or not.
+#![tactic(auto)]
+
 ghost use Rattle.std.specs.Prelude.{◌≡◌};
 ghost use Rattle.progress.specs.State.{progress_of};
 ghost use Rattle.reference.specs.Call.{engine_entry, EnterChange, SetUp, Enter};

@@ -1,4 +1,6 @@
 // Decoding the bytes of a journal's slot, and testing that they are in the one accepted form.
+#![tactic(auto)]
+
 ghost use Rattle.std.specs.Prelude.{◌≡◌, ◌≤◌, length};
 ghost use Rattle.journal.specs.Read.{event_in};
 ghost use Rattle.journal.specs.Acceptance.{is_slot};

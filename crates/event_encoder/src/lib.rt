@@ -1,4 +1,6 @@
 // Writing an event: its slot of the journal, byte 24, and byte 3 for the first strike.
+#![tactic(auto)]
+
 ghost use Rattle.std.specs.Prelude.{◌≡◌, ◌<◌, length, get_or};
 ghost use Rattle.journal.specs.Encode.{slot, slot_of, with_slot, version_in, raises, append};
 ghost use Rattle.year.specs.Deletions.{is_deletion};

@@ -1,4 +1,5 @@
 // The stored journal ("book" in document 01): 544 bytes for each setup and list of events. The definitions are in specs/.
+#![tactic(auto)]
 
 // The number of bytes in a journal.
 pub const JOURNAL_SIZE: usize = 544;

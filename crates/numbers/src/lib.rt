@@ -1,4 +1,6 @@
 // The numbers of a line, each after one space.
+#![tactic(auto)]
+
 ghost use Rattle.std.specs.Prelude.{◌≡◌, ◌≤◌, length, take};
 ghost use Rattle.buffers.specs.Bytes.{put};
 ghost use Rattle.protocol.specs.Number.{number_outcome_of};

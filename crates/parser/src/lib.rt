@@ -1,4 +1,6 @@
 // From a letter and its numbers to what a line asks for: the second step of parsing, which sees neither the line nor a journal.
+#![tactic(auto)]
+
 ghost use Rattle.std.specs.Prelude.{◌≡◌, length};
 ghost use Rattle.protocol.specs.KeyLine.{setup_from, engine_from, amendment_from, of_count, change_of, of_pairs, call_of};
 ghost use Rattle.reference.specs.Call.{SetUp, Enter};

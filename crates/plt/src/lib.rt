@@ -1,5 +1,7 @@
 // Production-line testing for programs in other languages: the key line, an engine's entry, status and the marks, on a lent journal. include/plt.h has the same
 // functions for C. A slice is a pointer and a length. There is no precondition on what is lent, and the contracts give every byte and number of it.
+#![tactic(auto)]
+
 ghost use Rattle.std.specs.Prelude.{◌≡◌, ◌<◌};
 ghost use Rattle.reference.specs.Call.{engine_entry, Marks, ReadStatus, Enter, Ask};
 ghost use Rattle.reference.specs.Answers.{out_after, output_answer};

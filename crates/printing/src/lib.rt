@@ -1,4 +1,6 @@
 // The marks of a year's tested engines written into a lent buffer.
+#![tactic(auto)]
+
 ghost use Rattle.std.specs.Prelude.{◌≡◌, [], ◌∷◌, map, ◌+◌, ◌*◌, ◌≤◌, length};
 ghost use Rattle.buffers.specs.Bytes.{put};
 ghost use Rattle.cumsum.specs.Marks.{mark_byte};

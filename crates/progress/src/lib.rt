@@ -1,4 +1,6 @@
 // The progress of a model year in code: one value that is carried from event to event. The definitions are in the crate year.
+#![tactic(auto)]
+
 pub mod events;
 
 use engines::Engines;

@@ -1,4 +1,5 @@
 // The key line: what a line of bytes asks for, and the reply.
+#![tactic(auto)]
 
 // "At most 64 bytes, then a newline"; of a longer line one extra byte is held, which shows that it is longer. Every reply is shorter than its output.
 pub const LINE_SIZE: usize = 64;

@@ -2,6 +2,8 @@
 // Each contract gives the whole answer (its value, which fixes the enum case, and its refusal number and figures as in the specification, `outcome`) and every
 // byte of each buffer that the call may write, refused or not. The result of `marks` keeps its output lent, so its contract gives the bytes of that result, and
 // by `LenderFinds` every byte behind it.
+#![tactic(auto)]
+
 ghost use Rattle.std.specs.Prelude.{◌≡◌, length, drop};
 ghost use Rattle.front_part.specs.Lender.{LenderFinds};
 ghost use Rattle.reference.specs.Call.{Marks, ReadStatus, Write, Ask};

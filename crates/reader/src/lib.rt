@@ -1,4 +1,6 @@
 // The reader of the key line: the number at a position.
+#![tactic(auto)]
+
 mod digits;
 
 ghost use Rattle.std.specs.Prelude.{◌≡◌};

@@ -1,4 +1,6 @@
 // What the public calls take and give back.
+#![tactic(auto)]
+
 use year::{Pair, Status};
 
 // An accepted setup, entry or status gives the status; a refused call gives the number of its refusal.

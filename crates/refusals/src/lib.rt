@@ -1,5 +1,7 @@
 // Which calls are refused, and by which number: the tests of the one table of refusals (`refusals` of the crate reference), in its order; and the decision on
 // an entry, which the crates change_decision and engine_decision make. Nothing is written.
+#![tactic(auto)]
+
 ghost use Rattle.std.specs.Prelude.{◌≡◌};
 ghost use Rattle.conditions.specs.Rows.{first};
 ghost use Rattle.journal.specs.Read.{read_journal};

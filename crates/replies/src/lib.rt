@@ -1,4 +1,6 @@
 // The replies: "NO" and a refusal's number, "OK" and what a technician needs of a status, "OK" and the marks.
+#![tactic(auto)]
+
 ghost use Rattle.std.specs.Prelude.{◌≡◌, ◌+◌, ◌≤◌, length};
 ghost use Rattle.buffers.specs.Bytes.{put};
 ghost use Rattle.protocol.specs.Reply.{refusal_reply, status_reply, answer_reply};

@@ -1,5 +1,7 @@
 // From readings to a result (document 01, "From reading to result"): each step rounds to the nearest, halves to the even neighbour. The definitions are in the
 // crate rounding.
+#![tactic(auto)]
+
 ghost use Rattle.std.specs.Prelude.{◌≡◌, map, ◌^◌, ◌≤◌, ◌<◌, length};
 ghost use Rattle.rounding.specs.Result.{nearest_even, rounded, sum, factored, result_of, count_in_range, reading_in_range, factor_in_range, result_in_range};
 

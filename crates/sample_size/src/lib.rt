@@ -1,5 +1,7 @@
 // The required sample size N = 1 + t95² × V × n / (10,000 × (n − 1) × G²), and the stop test (document 01, "Sample size"). The definitions are in the crate
 // statistics.
+#![tactic(auto)]
+
 mod coefficient;
 
 ghost use Rattle.std.specs.Prelude.{◌≡◌, ◌-◌, ◌*◌, ◌≤◌};

@@ -1,4 +1,6 @@
 // Reading a buffer of any length and content as a journal, from its first event to its last.
+#![tactic(auto)]
+
 ghost use Rattle.std.specs.Prelude.{◌≤◌, ◌≡◌, length};
 ghost use Rattle.journal.specs.Read.{read_journal};
 ghost use Rattle.slots.specs.Scanned.{ScannedAs, entered};

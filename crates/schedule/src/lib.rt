@@ -1,4 +1,6 @@
 // The rules of a setup in code: its ranges and those of an amendment, the test periods, one percent of the volume. The definitions are in the crate year.
+#![tactic(auto)]
+
 ghost use Rattle.std.specs.Prelude.{◌≡◌};
 ghost use Rattle.year.specs.Setup.{standard_in_range, standards_in_range, production_in_range, factors_in_range, setup_in_range};
 ghost use Rattle.year.specs.Periods.{periods, needs};

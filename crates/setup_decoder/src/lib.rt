@@ -1,4 +1,6 @@
 // Decoding a journal's first 32 bytes, and testing that they are in the one accepted form.
+#![tactic(auto)]
+
 ghost use Rattle.std.specs.Prelude.{◌≡◌, ◌≤◌, length};
 ghost use Rattle.journal.specs.Read.{setup_in};
 ghost use Rattle.journal.specs.Acceptance.{is_header};

@@ -1,4 +1,6 @@
 // A setup written over all bytes of a journal.
+#![tactic(auto)]
+
 ghost use Rattle.std.specs.Prelude.{◌≡◌, [], length};
 ghost use Rattle.journal.specs.Encode.{setup_version, encode};
 ghost use Rattle.setup_encoder.specs.Fits.{SetupFits};

@@ -1,4 +1,6 @@
 // The events of a journal's slots, entered one after another.
+#![tactic(auto)]
+
 ghost use Rattle.std.specs.Prelude.{◌≡◌, ◌≤◌, length};
 ghost use Rattle.year.specs.Model.{NoSetup};
 ghost use Rattle.slots.specs.Scanned.{ScannedAs, Entered, entered};

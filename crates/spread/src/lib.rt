@@ -1,5 +1,7 @@
 // Sums and sample standard deviation of one pollutant in code (document 01, "Spread, brackets, marks", first paragraph). The definitions are in the crate
 // statistics.
+#![tactic(auto)]
+
 pub mod squareroot;
 pub mod summing;
 pub mod variance;

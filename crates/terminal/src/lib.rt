@@ -1,6 +1,8 @@
 // The calculator at a terminal: key lines from standard input, replies to standard output. What a read returns and what a write accepts is I/O behaviour,
 // outside the contracts: here each byte is fetched and handed to `console::key`, in order, and what that shows is printed. (protocol, specs/Console: for every
 // input, these steps print document 01's run.)
+#![tactic(auto)]
+
 ghost use Rattle.std.specs.Prelude.{◌≡◌, [], take};
 ghost use Rattle.buffers.specs.Bytes.{zeros};
 ghost use Rattle.protocol.specs.Console.{held_at, journal_at, journal_at_end};

@@ -1,4 +1,6 @@
 // Writing text into a lent output at a position. Each function returns the position after what it wrote.
+#![tactic(auto)]
+
 ghost use Rattle.std.specs.Prelude.{[], ◌∷◌, ◌+◌, ◌≤◌, length};
 ghost use Rattle.cumsum.specs.Marks.{mark_byte};
 ghost use Rattle.protocol.specs.Reply.{spaced, size_text};

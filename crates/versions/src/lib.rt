@@ -1,4 +1,6 @@
 // The version of a stored journal: whether the one that it says can hold its events.
+#![tactic(auto)]
+
 ghost use Rattle.std.specs.Prelude.{◌≡◌, ◌≤◌, length};
 ghost use Rattle.year.specs.Deletions.{has_deletion};
 ghost use Rattle.journal.specs.Read.{events_in};

@@ -1,5 +1,7 @@
 // A test program: small rules, and years from standard input, event by event, with their figures. Input and expected output are made by tools/worked_years.py,
 // which works from documents 01 and 02 alone and describes the line format.
+#![tactic(auto)]
+
 use crate::work::{first_year, obey};
 use test_lines::input::next_letter;
 

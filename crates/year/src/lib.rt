@@ -1,4 +1,6 @@
 // The model year of one engine family: what was set up, what was entered, and the figures of a status.
+#![tactic(auto)]
+
 use cumsum::{Interval, Mark};
 use rounding::Factor;
 use statistics::{Deviation, SampleSize};
