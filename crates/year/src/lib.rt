@@ -11,21 +11,21 @@ pub const MOST_ENGINES: usize = 40;
 pub const MOST_EVENTS: u32 = 64;
 
 // A number for each pollutant: results, or standards, in result units.
-#[derive(Drop)]
+#[derive(Clone, Copy)]
 pub struct Pair {
     pub hcnox: u32,
     pub co: u32,
 }
 
 // A factor for each pollutant.
-#[derive(Drop)]
+#[derive(Clone, Copy)]
 pub struct Factors {
     pub hcnox: Factor,
     pub co: Factor,
 }
 
 // Projected volume P, production days D, the first standards, the factors. Any values; `setup_in_range` says whether they are in range.
-#[derive(Drop)]
+#[derive(Clone, Copy)]
 pub struct Setup {
     pub volume: u32,
     pub days: u32,
