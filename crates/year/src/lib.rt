@@ -35,7 +35,7 @@ pub struct Setup {
 
 // What is stored for an accepted entry. `readings` is the number of readings for each pollutant. A deletion ("strike" in document 02, W-201) removes the newest
 // engine.
-#[derive(Drop)]
+#[derive(Clone, Copy)]
 pub enum Event {
     Engine {
         number: u32,
