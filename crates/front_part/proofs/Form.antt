@@ -2,14 +2,14 @@
 --       let end = write(journal, out, refusal);  &mut out[..end]
 -- where `write` does the work, and reports where the part ends and whether the call is refused. `HandsBack.antt` proves it once for every call of this form.
 use mathlib.Core.Path.{◌≡◌}
-use Prim.Native.Nat.{ℕ}
+use Prim.Native.Nat.{ℕ, ◌+◌}
 use mathlib.Core.List.{List, [], ◌∷◌}
 use lib.ListN.{length, take, drop}
 use seplogic.Ra.Ura.{Ura}
-use mir.Syntax.{Name, Fn, Ty, Local, named, erased, mut, imm, w8, w64, ty_int, ty_ref, local, value_local, field, deref, place}
+use mir.Syntax.{Callee, Fn, Ty, Local, named, erased, mut, imm, w8, w64, ty_int, ty_ref, local, value_local, field, deref, place}
 use mir.Syntax.{copy, addr_of, aggregate, assign, seq, return, call}
 use base.Logic.{sep, emp}
-use types.Logic.{Logic}
+use types.Logic.{Logic, sem}
 use contract.Monad.{fact}
 use denote.Builtin.{u8, usize}
 use denote.Exit.{yes, no}
@@ -24,7 +24,8 @@ pub record Output : Type 1 where
   pub part_of : List ℕ → List ℕ → List ℕ
   pub after_of : List ℕ → List ℕ → List ℕ
   pub refusal_of : List ℕ → List ℕ → ℕ
-  -- the part is the front of the buffer afterwards
+  -- the call keeps the buffer's length, and the part is the front of the buffer afterwards
+  pub whole : (journal buffer : List ℕ) → length buffer ≡ length (part_of journal buffer) + length (drop (length (part_of journal buffer)) (after_of journal buffer))
   pub front : (journal buffer : List ℕ) → take (length (part_of journal buffer)) (after_of journal buffer) ≡ part_of journal buffer
   -- what `write` promises about the two numbers that it reports, and that these are the part's end and the refusal
   pub Answers : List ℕ → List ℕ → ℕ → ℕ → Type 0
@@ -52,10 +53,12 @@ abbrev pub handing : Ended
 handing = record { signature = signed buffer; kept = (yes, (no, (yes, tt))) }
 
 -- the code: _1 to _3 are the parameters, _4 is `end`, and _5 to _8 are references
-abbrev pub function : Name → Fn
+abbrev pub function : Callee → Fn
 function write = record {
   lifetimes = 3;
   outlives = [];
+  ty_params = [];
+  givens = 0;
   params = 3;
   locals = held (slice_ty lent) ∷ held (slice_ty (ty_ref (named 0) imm (ty_int w8))) ∷ held (slice_ty lent) ∷ held (ty_ref (named 2) mut (ty_int w8))
       ∷ held (ty_int w64) ∷ held again ∷ held (slice_ty again) ∷ held again ∷ held again ∷ [];
@@ -86,12 +89,13 @@ module _ (output : Output) {M : Type 1} (𝓤 : Ura M) where
         (fact 𝓤 (e.1.0.now ≡ output.after_of a.0.now a.1.0.now));
   }
 
-  -- what the call promises: the part's bytes, where the part starts, every byte behind it, and the refusal
+  -- what the call promises: the part's bytes, where the part starts, every byte behind it, that each byte is in the part or behind it, and the refusal
   abbrev pub Hands : (𝓛 : Logic 𝓤) → Clauses 𝓤 handing
   Hands 𝓛 κs a = record {
     ghost = Unit {0};
     requires = λ _. emp 𝓤;
-    ensures = λ _ r e. sep 𝓤 (fact 𝓤 (r.now ≡ output.part_of a.0.now a.1.0.now)) (sep 𝓤 (fact 𝓤 (r.ref_ptr ≡ a.1.0.ref_ptr))
-        (sep 𝓤 (sep 𝓤 (LenderFinds 𝓛 a.1.0 r (drop (length r.now) (output.after_of a.0.now a.1.0.now))) (emp 𝓤))
-        (fact 𝓤 (e.1.1.0.now ≡ output.refusal_of a.0.now a.1.0.now))));
+    ensures = λ _ r e. let rest = drop (length r.now) (output.after_of a.0.now a.1.0.now) in
+        sep 𝓤 (fact 𝓤 (r.now ≡ output.part_of a.0.now a.1.0.now)) (sep 𝓤 (fact 𝓤 (r.ref_ptr ≡ a.1.0.ref_ptr))
+        (sep 𝓤 (sem 𝓛 (LenderFinds a.1.0 r rest)) (sep 𝓤 (fact 𝓤 (length a.1.0.now ≡ length r.now + length rest))
+        (fact 𝓤 (e.1.1.0.now ≡ output.refusal_of a.0.now a.1.0.now)))));
   }

@@ -6,19 +6,21 @@
 --     walk       the code, statement by statement
 --     hands      hence the call meets its contract, over any tables
 use mathlib.Core.Path.{◌≡◌, refl, sym, ◌∙◌, ap}
-use Prim.Native.Nat.{ℕ, ◌<◌, ◌^◌}
+use Prim.Native.Nat.{ℕ, ◌+◌, ◌<◌, ◌^◌}
 use mathlib.Core.List.{List, [], ◌∷◌, ◌++◌}
 use lib.ListN.{length, take, drop as drop-list}
 use seplogic.Ra.Ura.{Ura}
-use seplogic.Ra.TreeShare.{full_share}
-use mir.Syntax.{Name, named, w64, ty_int}
+use base.Fraction.{full_share}
+use mir.Syntax.{Callee, named, w64, ty_int}
 use mir.Val.{Val, vptr}
 use base.Logic.{SProp, ent, sep, emp, via, fst∗, comm∗, id⊢}
-use base.Fml.{Lft, Share, GName, Fml, ftrue, fsep, fat, flft, fres}
+use base.Fml.{Lft, Share, GName, Fml, ftrue, fsep, fat, flft, fres, fbor}
+use types.SemTy.{Body}
+use denote.Memory.{mem}
 use prog.Wp.{Calls, Loops, WpFn, Tables}
 use types.Logic.{Logic, sem}
 use contract.Monad.{fact, fact_i}
-use types.Kit.{Item, ‵, raw, ◌⊛◌, ⋆, some, later, ◌$◌, ◌∵◌, !, qed, by, move, keep, use0, use1, use2, use3, drop, rewrite, split, join, pick}
+use types.Kit.{Item, ‵, raw, ◌⊛◌, ⋆, some, later, ◌$◌, ◌∵◌, !, qed, by, move, keep, use0, use1, use2, use3, drop, rewrite, split, split3, join, pick}
 use types.Kit.{fsplit, fsplit3, fjoin, feq_l, suffices, frame, await, updating, show, done}
 use types.Run.{look, init, forget, stop, hop, fld, from, load, addr, and_then, no_more, assigns}
 use types.Run.{land, returns, enter, alloc1, alloc0, params1, pass1, pass0, free1, free0}
@@ -30,9 +32,9 @@ use denote.Laws.{Is, shows}
 use denote.Plain.{uint_Lawful}
 use denote.Builtin.{u8, usize}
 use denote.Exit.{yes, no}
-use denote.Ref.{MutBor, MutRef, shr_vals, mut_Tells}
+use denote.Ref.{Bor, MutBor, MutRef, mut_vals, mut_Tells}
 use denote.Signature.{plain}
-use denote.Slice.{slice_val, ShrSlice, MutSlice, Holeys, Room, heres, coded_holeys, shr_slice_vals, shr_slice_Tells, mut_slice_Tells}
+use denote.Slice.{slice_val, ShrSlice, MutSlice, Room, shr_slice_vals, mut_slice_vals, shr_slice_Tells, mut_slice_Tells}
 use denote.Steps.{only, peeks, heard, nothing}
 use denote.Triple.Entry.{on_entry}
 use denote.Triple.Spec.{Meets, triple_of}
@@ -42,7 +44,7 @@ use denote.Triple.Clauses.{closing, ensured, lasts}
 use denote.Triple.Walked.{Stays, stay_dropped, gave_ref, on_exit, walk_of, Goes-dropped, Goes-spent_slice, Goes-gave_ref, Walks, ends_at, walked, walk_Meets}
 use Rattle.front_part.specs.Lender.{LenderFinds}
 use Rattle.front_part.proofs.Again.{LentAgain, lends_again, comes_back}
-use Rattle.front_part.proofs.Front.{Ends, Handed, front_out}
+use Rattle.front_part.proofs.Front.{Handed, front_out}
 use Rattle.front_part.proofs.Form.{Output, journal, buffer, writing, handing, function, Writes, Hands}
 
 -- the journal is given to the callee, the buffer to the result, and for the refusal what remains is the statement of its last value
@@ -55,7 +57,7 @@ Written output {𝓤 = 𝓤} 𝓛 = triple_of 𝓛 writing.signature (closing �
 
 -- at lifetimes κ₀, κ₁ and κ₂ the journal j, the buffer at (b, o) under the name γ, which holds ys, and the refusal t
 module _ (output : Output) {M : Type 1} {𝓤 : Ura M} (𝓛 : Logic 𝓤) (κ₀ κ₁ κ₂ : Lft) (q₀ q₁ q₂ : Share)
-    (j : MutBor (List ℕ)) (b o : ℕ) (γ : GName) (ys : List ℕ) (t : MutBor ℕ) where
+    (j : Bor (List ℕ)) (b o : ℕ) (γ : GName) (ys : List ℕ) (t : MutBor ℕ) where
   -- the buffer's borrow, under the name δ at the list l
   open 𝓛 use {H, A}
 
@@ -70,13 +72,13 @@ module _ (output : Output) {M : Type 1} {𝓤 : Ura M} (𝓛 : Logic 𝓤) (κ�
   s n = slice_val (b, o) n
 
   abbrev vt : Val
-  vt = vptr t.ptr.0 t.ptr.1
+  vt = vptr t.ref_ptr.0 t.ref_ptr.1
 
   abbrev vals : List Val × (List Val × (List Val × Unit {0}))
   vals = (vj ∷ [], (s (length ys) ∷ [], (vt ∷ [], tt)))
 
   -- the arguments, lifetimes and shares, the buffer under δ, at ν, with the share q
-  abbrev a : GName → MutBor (List ℕ) × (MutBor (List ℕ) × (MutBor ℕ × Unit {0}))
+  abbrev a : GName → Bor (List ℕ) × (MutBor (List ℕ) × (MutBor ℕ × Unit {0}))
   a δ = (j, (x δ ys, (t, tt)))
 
   abbrev κs : Lft → Lft × (Lft × (Lft × Unit {0}))
@@ -128,53 +130,51 @@ module _ (output : Output) {M : Type 1} {𝓤 : Ura M} (𝓛 : Logic 𝓤) (κ�
     same : drop-list r zs ≡ rest
     same = ap (λ (k : ℕ). drop-list k zs) (sym count) ∙ ap (drop-list (length (take r zs))) ez
 
-    -- the result, under the name γ', and how the buffer ends
+    -- the result, under the name γ', and how the buffer follows it
     abbrev back : GName → MutBor (List ℕ)
     back γ' = x γ' (take r zs)
 
-    abbrev Kept : Holeys u8 → Fml
-    Kept lent = Ends 𝓛 u8 (named 1) κ₁ q₁ b o γ zs r lent
-
-    abbrev Finds : GName → SProp 𝓤
-    Finds γ' = LenderFinds 𝓛 (x γ ys) (back γ') rest
-
-    finds : (γ' : GName) (lent : Holeys u8) → ent 𝓤 (sem 𝓛 (Kept lent)) (Finds γ')
-    finds γ' lent =
-        qed 𝓛 (‵ (Kept lent) ∷ []) ∵ fsplit ! $ feq_l ! (λ e.
-        show ! (λ (l : Holeys u8). sep 𝓤 (fact 𝓤 (length l ≡ length (take r zs))) (A.res γ ((coded_holeys u8).code (l ++ heres u8 rest)))) lent $
-        rewrite ! 0 (λ (l : List ℕ). ‵ (fres γ ((coded_holeys u8).code (lent ++ heres u8 l)))) same refl $
-        use0 𝓛 (raw (fact 𝓤 (length lent ≡ length (take r zs)))) (fact_i 𝓤 _ (emp 𝓤) e) $ frame ! $ done !)
+    abbrev Follows : GName → List ℕ → Fml
+    Follows γ' behind = LenderFinds (x γ ys) (back γ') behind
 
     abbrev Start : Type 0
     Start = ◌≡◌ {A = ℕ × ℕ} (b, o) (b, o)
+
+    abbrev Entire : Type 0
+    Entire = length ys ≡ length (take r zs) + length rest
+
+    entire : Entire
+    entire = rw part (output.whole j.now ys)
 
     abbrev Refused : Type 0
     Refused = z ≡ output.refusal_of j.now ys
 
     abbrev Ensures : GName → SProp 𝓤
-    Ensures γ' = sep 𝓤 (fact 𝓤 Part) (sep 𝓤 (fact 𝓤 Start) (sep 𝓤 (sep 𝓤 (Finds γ') (emp 𝓤)) (fact 𝓤 Refused)))
+    Ensures γ' = sep 𝓤 (fact 𝓤 Part) (sep 𝓤 (fact 𝓤 Start) (sep 𝓤 (sem 𝓛 (Follows γ' rest)) (sep 𝓤 (fact 𝓤 Entire) (fact 𝓤 Refused))))
 
-    said : (γ' : GName) (lent : Holeys u8) → ent 𝓤 (sem 𝓛 (Kept lent)) (Ensures γ')
-    said γ' lent =
-        qed 𝓛 (‵ (Kept lent) ∷ []) ∵ use0 𝓛 (raw (fact 𝓤 Part)) (fact_i 𝓤 _ (emp 𝓤) part) $ frame ! $
-        use0 𝓛 (raw (fact 𝓤 Start)) (fact_i 𝓤 _ (emp 𝓤) refl) $ frame ! $
-        use1 𝓛 (raw (Finds γ')) (finds γ' lent) $ nothing ! $ move ! (1 ∷ 0 ∷ []) $ join ! $ frame ! $
+    said : (γ' : GName) → ent 𝓤 (sem 𝓛 (Follows γ' (drop-list r zs))) (Ensures γ')
+    said γ' =
+        qed 𝓛 (‵ (Follows γ' (drop-list r zs)) ∷ []) ∵
+        rewrite ! 0 (λ (l : List ℕ). ‵ (Follows γ' l)) same refl $
+        use0 𝓛 (raw (fact 𝓤 Part)) (fact_i 𝓤 _ (emp 𝓤) part) $ frame ! $
+        use0 𝓛 (raw (fact 𝓤 Start)) (fact_i 𝓤 _ (emp 𝓤) refl) $ frame ! $ frame ! $
+        use0 𝓛 (raw (fact 𝓤 Entire)) (fact_i 𝓤 _ (emp 𝓤) entire) $ frame ! $
         use0 𝓛 (raw (fact 𝓤 Refused)) (fact_i 𝓤 _ (emp 𝓤) (output.refusal j.now ys r z ea)) $ done !
 
     abbrev OnExit : GName → SProp 𝓤
     OnExit γ' = on_exit 𝓛 handing stayed (κs κ₁) (qs q₁) vals (s r) (back γ') (a γ) (tt, (tt, (z, tt)))
 
-    -- the refusal's last value
+    -- the refusal's last value, and what is left of its borrow
     abbrev Told : Item 𝓤
-    Told = ‵ (fsep (fres t.name (u8.coded.code z)) ftrue)
+    Told = ‵ (fsep (fsep (fres t.ghost_name (u8.coded.code z)) (fbor κ₂ (Body (mem u8) t.ref_ptr.0 t.ref_ptr.1 t.ghost_name))) ftrue)
 
-    handed : (γ' : GName) (lent : Holeys u8)
-        → ent 𝓤 (⋆ 𝓛 (‵ (Kept lent) ∷ Tokens κ₁ q₁ ∷ Told ∷ ‵ ((MutSlice (named 1) κ₁ u8).own_val (back γ') (s r ∷ [])) ∷ [])) (Post (s r))
-    handed γ' lent =
-        qed 𝓛 (‵ (Kept lent) ∷ Tokens κ₁ q₁ ∷ Told ∷ ‵ ((MutSlice (named 1) κ₁ u8).own_val (back γ') (s r ∷ [])) ∷ []) ∵
+    handed : (γ' : GName)
+        → ent 𝓤 (⋆ 𝓛 (‵ (Follows γ' (drop-list r zs)) ∷ Tokens κ₁ q₁ ∷ Told ∷ ‵ ((MutSlice (named 1) κ₁ u8).own_val (back γ') (s r ∷ [])) ∷ [])) (Post (s r))
+    handed γ' =
+        qed 𝓛 (‵ (Follows γ' (drop-list r zs)) ∷ Tokens κ₁ q₁ ∷ Told ∷ ‵ ((MutSlice (named 1) κ₁ u8).own_val (back γ') (s r ∷ [])) ∷ []) ∵
         suffices ! (sep 𝓤 (Ensures γ') (OnExit γ')) (via 𝓤 (sep 𝓤 (OnExit γ') (Ensures γ')) (comm∗ 𝓤 (Ensures γ') (OnExit γ'))
         (ends_at 𝓛 handing stayed (Hands output 𝓤 𝓛) bound (s r) (back γ') (tt, (tt, (z, tt))) (tt, (tt, (tt, tt))))) $
-        use1 𝓛 (raw (Ensures γ')) (said γ' lent) $ frame ! $ frame ! $
+        use1 𝓛 (raw (Ensures γ')) (said γ') $ frame ! $ frame ! $
         nothing ! $ move ! (0 ∷ 1 ∷ []) $ fjoin ! $ nothing ! $ move ! (0 ∷ 1 ∷ []) $ fjoin ! $ frame ! $ done !
 
     -- what is held at the end of the code: the buffer at the list that `write` left, the tokens, and the refusal
@@ -184,13 +184,13 @@ module _ (output : Output) {M : Type 1} {𝓤 : Ura M} (𝓛 : Logic 𝓤) (κ�
     exits : ent 𝓤 (⋆ 𝓛 Had) (Post (s r))
     exits =
         qed 𝓛 Had ∵ updating ! $
-        use2 𝓛 (later (some (λ (γ' : GName). some (λ (lent : Holeys u8). ‵ (Handed 𝓛 u8 (named 1) κ₁ q₁ b o γ zs r γ' lent)))))
-        (front_out 𝓛 u8 (named 1) κ₁ q₁ b o γ zs r (s (length ys) ∷ [])) $ await ! tt $ pick ! (λ γ'. pick ! (λ lent. fsplit3 ! $
-        -- [the part; its token; how the buffer ends; the other tokens; the refusal]
+        use2 𝓛 (later (some (λ (γ' : GName). ‵ ((MutSlice (named 1) κ₁ u8).own_val (back γ') (s (length (take r zs)) ∷ [])) ⊛ ‵ (flft κ₁ q₁) ⊛ ‵ (Follows γ' (drop-list r zs)))))
+        (front_out 𝓛 u8 (named 1) κ₁ q₁ b o γ zs r (s (length ys) ∷ [])) $ await ! tt $ pick ! (λ γ'. split3 ! $
+        -- [the part; its token; how the buffer follows; the other tokens; the refusal]
         rewrite ! 0 (λ (n : ℕ). ‵ ((MutSlice (named 1) κ₁ u8).own_val (back γ') (s n ∷ []))) count refl $
-        move ! (1 ∷ 3 ∷ []) $ join ! $ move ! (3 ∷ 0 ∷ []) $ join ! $ move ! (2 ∷ 0 ∷ 3 ∷ 1 ∷ []) $ by ! (handed γ' lent)))
+        move ! (1 ∷ 3 ∷ []) $ join ! $ move ! (3 ∷ 0 ∷ []) $ join ! $ move ! (2 ∷ 0 ∷ 3 ∷ 1 ∷ []) $ by ! (handed γ'))
 
-  module _ (write : Name) (C : Calls 𝓤 H) (Λ : Loops 𝓤 H) (fm : FmC 𝓤 H 𝓛.laws C) (known : Triple 𝓤 (C write) (Written output 𝓛)) where
+  module _ (write : Callee) (C : Calls 𝓤 H) (Λ : Loops 𝓤 H) (fm : FmC 𝓤 H 𝓛.laws C) (known : Triple 𝓤 (C write) (Written output 𝓛)) where
     walk : length j.now < 2 ^ 64 → Room u8 (length ys)
         → ent 𝓤 (on_entry 𝓛 handing.signature (κs κ₁) (qs q₁) (a γ) vals) (WpFn 𝓤 H C Λ (function write) (vj ∷ s (length ys) ∷ vt ∷ []) Post)
     walk fit room =
@@ -226,7 +226,7 @@ module _ (output : Output) {M : Type 1} {𝓤 : Ura M} (𝓛 : Logic 𝓤) (κ�
         ‵ (lasts writing (κs (ν ∷ [])) (a δ) zs) ⊛ raw (fact 𝓤 (Answered r zs.1.1.0)) ⊛ raw (fact 𝓤 (Left zs.1.0)))) (id⊢ 𝓤 _) $ pick ! (λ zs.
         split ! $ move ! (1 ∷ []) $ split ! $ heard ! (Answered r zs.1.1.0) (λ ea. heard ! (Left zs.1.0) (λ ez.
         -- [the last values; the tokens and the result; what is kept; _8; …]
-        fsplit3 ! $ drop ! $ fsplit ! $ move ! (1 ∷ []) $ feq_l ! (λ l.
+        fsplit3 ! $ drop ! $ fsplit ! $ fsplit ! $ move ! (1 ∷ []) $ feq_l ! (λ l. move ! (1 ∷ []) $ drop ! $
         -- [the last list; the refusal; the tokens and the result; what is kept; _8; …]
         move ! (2 ∷ []) $ split ! $ move ! (1 ∷ []) $ peeks ! usize (Is usize) (shows 𝓛 usize) r (w ∷ []) (λ is.
         land ! (from ! (stop !)) (init ! 13 refl ((uint_Lawful 𝓛 w64).typed r _ is).0) $
@@ -249,13 +249,13 @@ module _ (output : Output) {M : Type 1} {𝓤 : Ura M} (𝓛 : Logic 𝓤) (κ�
         move ! (8 ∷ 9 ∷ []) $ free1 ! $ move ! (6 ∷ 7 ∷ []) $ free1 ! $ free0 ! $
         keep ! (0 ∷ 1 ∷ 2 ∷ 3 ∷ 5 ∷ []) $ by ! (exits r zs.1.1.0 zs.1.0 ea ez)))))))))))))))))))
 
-module _ (output : Output) (write : Name) {M : Type 1} {𝓤 : Ura M} (𝓛 : Logic 𝓤) where
+module _ (output : Output) (write : Callee) {M : Type 1} {𝓤 : Ura M} (𝓛 : Logic 𝓤) where
   open 𝓛 use {H}
 
   walks : (C : Calls 𝓤 H) (Λ : Loops 𝓤 H) → FmC 𝓤 H 𝓛.laws C → Triple 𝓤 (C write) (Written output 𝓛)
       → Walks 𝓛 handing stayed (WpFn 𝓤 H C Λ (function write)) (Hands output 𝓤 𝓛)
   walks C Λ fm known =
-      walked 𝓛 handing stayed (Hands output 𝓤 𝓛) (WpFn 𝓤 H C Λ (function write)) (λ κs. (shr_slice_vals, (shr_slice_vals, (shr_vals, tt))))
+      walked 𝓛 handing stayed (Hands output 𝓤 𝓛) (WpFn 𝓤 H C Λ (function write)) (λ κs. (shr_slice_vals, (mut_slice_vals, (mut_vals, tt))))
       (λ κs. (shr_slice_Tells (named 0) κs.0 u8, (mut_slice_Tells (named 1) κs.1.0 u8, (mut_Tells (named 2) κs.1.1.0 u8, tt))))
       (λ κs qs bounds a g are. via 𝓤 _ (fst∗ 𝓤 _ (emp 𝓤))
       (walk output 𝓛 κs.0 κs.1.0 κs.1.1.0 qs.0 qs.1.0 qs.1.1.0

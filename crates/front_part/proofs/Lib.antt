@@ -1,5 +1,4 @@
 pub mod Again
-pub mod Places
 pub mod Front
 pub mod Lender
 pub mod Form

@@ -20,11 +20,11 @@ pub fn action_limit(d: Deviation) -> Interval
 }
 
 // One end of C with one more engine: max(0, previous + 4k × (X − T) − w).
-fn next_sum(previous: u64, resolution: u64, res: u32, standard: u32, w: u64) -> u64
+fn next_sum(previous: u64, resolution: u64, new_result: u32, standard: u32, w: u64) -> u64
     requires { NextInRange previous resolution w }
-    ensures* { λ r. ⌜ r ≡ next resolution (record { result = res; standard = standard }) w previous ⌝ }
+    ensures { result ≡ next resolution (record { result = new_result; standard = standard }) w previous }
 {
-    let up = previous + 4 * resolution * (res as u64);
+    let up = previous + 4 * resolution * (new_result as u64);
     let down = 4 * resolution * (standard as u64) + w;
     if up <= down {
         return 0;
@@ -36,19 +36,19 @@ fn next_sum(previous: u64, resolution: u64, res: u32, standard: u32, w: u64) -> 
 pub fn next_cumsum(
     previous: Interval,
     resolution: u64,
-    res: u32,
+    new_result: u32,
     standard: u32,
     d: Deviation,
 ) -> Interval
     requires { NextInRange previous.low resolution (d.floor + d.inexact) × NextInRange previous.high resolution d.floor }
-    ensures* { λ r. ⌜ r ≡ next_cumsum resolution (record { result = res; standard = standard }) d previous ⌝ }
+    ensures { result ≡ next_cumsum resolution (record { result = new_result; standard = standard }) d previous }
 {
     let low = previous.low;
     let high = previous.high;
     let floor = d.floor;
     let inexact = d.inexact;
     Interval {
-        low: next_sum(low, resolution, res, standard, floor + inexact),
-        high: next_sum(high, resolution, res, standard, floor),
+        low: next_sum(low, resolution, new_result, standard, floor + inexact),
+        high: next_sum(high, resolution, new_result, standard, floor),
     }
 }

@@ -2,11 +2,11 @@
 use mathlib.Core.Path.{◌≡◌, ap}
 use mathlib.Core.List.{List, map}
 use Prim.Native.Nat.{ℕ, ◌+◌, ◌*◌, ◌/◌, ◌%◌, ◌≤◌, ◌<◌}
-use native.Mathlib.Nat.{div-add-mod, mul-le-mul_right, mod-lt}
+use native.Mathlib.Nat.{mod-lt}
 use native.Mathlib.Numerals.{add-one}
 use native.Mathlib.Omega.{arith}
 use lib.Dec.{ltb, lit<}
-use lib.ListN.{length, get_or, drop, drop_of_length-le}
+use lib.ListN.{length, get_or, drop}
 use lib.Seq.{drop-cons}
 use Rattle.conditions.proofs.Tests.{by-test}
 use Rattle.rounding.specs.Result.{nearest_even, sum}
@@ -18,13 +18,5 @@ nearest-le a b =
     by-test (λ q. q ≤ a / b + 1) (ltb (2 * (a % b)) b) _ _ (λ _. omega arith)
     (λ _. by-test (λ q. q ≤ a / b + 1) (ltb b (2 * (a % b))) _ _ (λ _. omega arith) (λ _. omega (arith, mod-lt (a / b) {m = 2} (lit< tt))))
 
--- if the remainder is not 0, the quotient plus one is at most the dividend
-pub quotient-room : (a b : ℕ) → 1 ≤ b → 1 ≤ a % b → a / b + 1 ≤ a
-quotient-room a b hb h = omega (arith, div-add-mod a b, mul-le-mul_right (a / b) hb)
-
-module _ (f : ℕ → ℕ) (l : List ℕ) (i : ℕ) where
-  pub sum-next : i < length l → sum (map f (drop i l)) ≡ f (get_or l i 0) + sum (map f (drop (i + 1) l))
-  sum-next h = rw (add-one) (ap (λ (m : List ℕ). sum (map f m)) (drop-cons l i 0 h))
-
-  pub sum-end : length l ≤ i → sum (map f (drop i l)) ≡ 0
-  sum-end h = ap (λ (m : List ℕ). sum (map f m)) (drop_of_length-le l h)
+pub sum-next : (f : ℕ → ℕ) (l : List ℕ) (i : ℕ) → i < length l → sum (map f (drop i l)) ≡ f (get_or l i 0) + sum (map f (drop (i + 1) l))
+sum-next f l i h = rw (add-one) (ap (λ (m : List ℕ). sum (map f m)) (drop-cons l i 0 h))

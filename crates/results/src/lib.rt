@@ -9,6 +9,7 @@ use conditions::{both, within};
 use rounding::Factor;
 
 // a / b to the nearest, halves to the even neighbour.
+#[tactic(auto, using(rounding::proofs::Nearest::down, rounding::proofs::Nearest::up, rounding::proofs::Nearest::half))]
 pub fn nearest_even(a: u64, b: u64) -> u64
     requires { 1 ≤ b }
     ensures { result ≡ nearest_even a b }
@@ -28,8 +29,8 @@ pub fn nearest_even(a: u64, b: u64) -> u64
 // The sum of the readings, each rounded to result units.
 fn rounded_sum(readings: &[u32]) -> u64
     requires { length readings.now ≤ 3 }
-    ensures value { result ≡ sum (map rounded readings.now) }
-    ensures upper_bound { result < 2 ^ 24 }
+    ensures total { result ≡ sum (map rounded readings.now) }
+    ensures below { result < 2 ^ 24 }
 {
     let mut total: u64 = 0;
     let mut i = 0;

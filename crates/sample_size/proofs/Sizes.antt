@@ -11,7 +11,6 @@ use borrow.Author.Tests.{lt-ltb, le-ltb, le-leb, lt-leb, eq-eqb, ne_eqb}
 use Rattle.conditions.specs.Ranges.{distance}
 use Rattle.statistics.specs.declared.SampleSize.TheVariants.{Tenths, Absent}
 use Rattle.statistics.specs.SampleSize.{t95, denominator, numerator, rounded_up, sample_size, size_reached}
-use Rattle.sample_size.specs.Ranges.{SizeInRange}
 use Rattle.statistics.proofs.Coefficients.{t95-le}
 
 -- N in tenths, where w is a ten-thousandth of the denominator and a the numerator of N − 1
@@ -76,9 +75,9 @@ module _ (n s t v : ℕ) where
       sym (rw whole at (quotient-test (n - 1) (10000 * w) a (omega arith))) ∙ as-defined w a h l ew ea
 
 -- The products fit 64 bits.
-pub numerator-fits : (n v : ℕ) → n ≤ 40 → v ≤ n * n * 100000000
+pub numerator_fits : (n v : ℕ) → n ≤ 40 → v ≤ n * n * 100000000
     → (t95 n * t95 n ≤ 398161) × (t95 n * t95 n * v ≤ 63705760000000000) × (t95 n * t95 n * v * n ≤ 2548230400000000000)
-numerator-fits n v few h = (tt2, ttv, mul-le-mul ttv few)
+numerator_fits n v few h = (tt2, ttv, mul-le-mul ttv few)
   where
     tt2 : t95 n * t95 n ≤ 398161
     tt2 = mul-le-mul (t95-le n) (t95-le n)
@@ -89,11 +88,7 @@ numerator-fits n v few h = (tt2, ttv, mul-le-mul ttv few)
     ttv : t95 n * t95 n * v ≤ 63705760000000000
     ttv = mul-le-mul tt2 small
 
-pub target_fits : (n s t v : ℕ) → SizeInRange n s t v → (s ≤ 800000) × (n * t ≤ 800000)
-target_fits n s t v h = (omega (arith, h.total, h.few), mul-le-mul h.few h.standard)
+-- what a sample size, and what the stop test, is found to be
+pub ruleset sizes = (absent-few, absent-even, in-tenths)
 
-pub denominator-fits : (n g : ℕ) → n ≤ 40 → g ≤ 800000 → (g * g ≤ 640000000000) × ((n - 1) * (g * g) ≤ 24960000000000)
-denominator-fits n g few h = (gg, mul-le-mul {n₂ = 39} (omega arith) gg)
-  where
-    gg : g * g ≤ 640000000000
-    gg = mul-le-mul h h
+pub ruleset stops = (not-few, not-above, by-quotient)

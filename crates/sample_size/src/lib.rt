@@ -20,6 +20,7 @@ fn distance(a: u64, b: u64) -> u64
 }
 
 // The numerator of N − 1: t95² × V × n.
+#[tactic(auto, using(crate::proofs::Sizes::numerator_fits))]
 fn numerator(n: u64, variation: u64) -> u64
     requires { (2 ≤ n) × (n ≤ 40) × (variation ≤ n * n * 100000000) }
     ensures { (result ≡ t95 n * t95 n * variation * n) × (result ≤ 2548230400000000000) }
@@ -37,6 +38,7 @@ fn denominator(n: u64, g: u64) -> u64
 }
 
 // N in tenths, rounded up, for n engines with sum S and variation V, the newest under `standard`.
+#[tactic(auto, using(crate::proofs::Sizes::sizes))]
 pub fn sample_size_of(n: u64, sum: u64, standard: u64, variation: u64) -> SampleSize
     requires { SizeInRange n sum standard variation }
     ensures { result ≡ sample_size n sum standard variation }
@@ -54,6 +56,7 @@ pub fn sample_size_of(n: u64, sum: u64, standard: u64, variation: u64) -> Sample
 }
 
 // N exists, n > N and G ≤ 0. N − 1 is below n − 1 exactly if its integer part is, so no product with n is needed.
+#[tactic(auto, using(crate::proofs::Sizes::stops))]
 pub fn size_reached(n: u64, sum: u64, standard: u64, variation: u64) -> bool
     requires { SizeInRange n sum standard variation }
     ensures { result ≡ size_reached n sum standard variation }

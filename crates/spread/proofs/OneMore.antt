@@ -55,5 +55,5 @@ history-room x h le r =
       above = mul-le-mul few sum;
     }
 
-pub sums-room : (s : Sums) (x : ℕ) → SumsInRange s x → Room s x
-sums-room s x r = rw r.summed (history-room x r.history r.result r.in_range)
+pub sums_room : (s : Sums) (x : ℕ) → SumsInRange s x → Room s x
+sums_room s x r = rw r.summed (history-room x r.history r.result r.in_range)

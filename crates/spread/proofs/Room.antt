@@ -35,11 +35,11 @@ module _ (k i v : ℕ) (h : DeviationInRange k i v) where
     next-fails : k * k * v < (s + 1) * (s + 1) * (i * (i - 1))
     next-fails = rw is-floor (deviation-next k i v h.two)
 
-    pub product-fits : s * s * (i * (i - 1)) < 2 ^ 64
-    product-fits = lt_of_le_of_lt passes scaled_fits
+    pub product_fits : s * s * (i * (i - 1)) < 2 ^ 64
+    product_fits = lt_of_le_of_lt passes scaled_fits
 
-    pub root-fits : s * s < 2 ^ 64
-    root-fits = lt_of_le_of_lt (le-mul_of_pos_right (s * s) (divisor-pos i h.two)) product-fits
+    pub root_fits : s * s < 2 ^ 64
+    root_fits = lt_of_le_of_lt (le-mul_of_pos_right (s * s) (divisor-pos i h.two)) product_fits
 
     pub exact : s * s * (i * (i - 1)) ≡ k * k * v → record { floor = s; inexact = 0 } ≡ deviation k i v
     exact t = sym (deviation-unique k i v h.two s passes next-fails ∙ rw (eq-eqb _ _ t))
@@ -49,4 +49,4 @@ module _ (k i v : ℕ) (h : DeviationInRange k i v) where
 
   -- s is below 2 ^ 32, so that 20 × s fits
   pub deviation-lt : (deviation k i v).floor < 4294967296
-  deviation-lt = lt_of_not-le (λ l. not-le_of_lt (root-fits (deviation k i v).floor (deviation-root k i v h.two)) (mul-le-mul l l))
+  deviation-lt = lt_of_not-le (λ l. not-le_of_lt (root_fits (deviation k i v).floor (deviation-root k i v h.two)) (mul-le-mul l l))

@@ -7,6 +7,7 @@ ghost use Rattle.spread.specs.Ranges.{SumsInRange};
 use crate::Sums;
 
 // The sums with no engine.
+#[tactic(auto, unfolding(statistics::specs::Spread::variation))]
 pub fn no_sums() -> Sums
     ensures { result ≡ sums [] }
 {
@@ -19,11 +20,12 @@ pub fn no_sums() -> Sums
 }
 
 // The sums with one more engine, whatever history they are of and whatever the new engine's standard is.
-pub fn add_result(s: Sums, res: u32) -> Sums
-    requires { SumsInRange s res }
-    ensures* { λ r. ⌜ ((h : List Test) (t : ℕ) → s ≡ sums h → r ≡ sums (record { result = res; standard = t } ∷ h)) ⌝ }
+#[tactic(auto, using(crate::proofs::OneMore::sums_room, crate::proofs::OneMore::sums_next))]
+pub fn add_result(s: Sums, new_result: u32) -> Sums
+    requires { SumsInRange s new_result }
+    ensures { (h : List Test) (t : ℕ) → s ≡ sums h → result ≡ sums (record { result = new_result; standard = t } ∷ h) }
 {
-    let x = res as u64;
+    let x = new_result as u64;
     let n = s.n + 1;
     let total = s.total + x;
     let squares = s.squares + x * x;

@@ -7,6 +7,7 @@ use crate::squareroot::root;
 use statistics::Deviation;
 
 // The deviation at a resolution, for n engines' results with variation V.
+#[tactic(auto, using(crate::proofs::Room::root_fits, crate::proofs::Room::product_fits, crate::proofs::Room::exact, crate::proofs::Room::inexact))]
 pub fn deviation_of(resolution: u64, n: u64, variation: u64) -> Deviation
     requires { DeviationInRange resolution n variation }
     ensures { result ≡ deviation resolution n variation }
