@@ -5,9 +5,8 @@ use mathlib.Core.Bool.{◌&&◌, and-true, and_assoc}
 use mathlib.Core.List.{List}
 use Prim.Native.Nat.{ℕ, ◌≤◌}
 use native.Mathlib.Omega.{arith}
-use lib.Dec.{eqb}
-use lib.ListN.{length, get_or, take, drop}
-use Rattle.conditions.proofs.Tests.{eqb_refl, eqb-sym}
+use lib.ListN.{length, take, drop}
+use Rattle.conditions.proofs.Tests.{eqb_refl}
 use Rattle.buffers.specs.Bytes.{is_zero}
 use Rattle.buffers.proofs.Lists.{part-elements}
 use Rattle.buffers.proofs.LittleEndian.{Bytes, low, high, low32, high32, upper32}
@@ -15,17 +14,7 @@ use Rattle.journal.specs.Acceptance.{is_header}
 use Rattle.setup_decoder.specs.Parts.{is_start}
 
 module _ (journal : List ℕ) (long : 32 ≤ length journal) where
-  -- the code's tests of the first three bytes, and of the whole header, are the definitions
-  pub start-tests : (eqb (get_or journal 0 0) 80 && eqb (get_or journal 1 0) 76 && eqb (get_or journal 2 0) 84) ≡ is_start journal
-  start-tests =
-      rw (
-        part-elements journal 0 3 (omega arith),
-        eqb-sym (get_or journal 0 0) 80,
-        eqb-sym (get_or journal 1 0) 76,
-        eqb-sym (get_or journal 2 0) 84,
-      )
-      (simp (and-true, and_assoc))
-
+  -- the code's tests of the whole header are the definition
   pub header-tests : Bytes journal → (is_start journal && is_zero (take 3 (drop 5 journal)) && is_zero (take 7 (drop 25 journal))) ≡ is_header journal
   unfolding is_header
   header-tests bytes =

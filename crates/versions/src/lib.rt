@@ -24,6 +24,7 @@ fn has_deletion(journal: &[u8], count: usize) -> bool
 }
 
 // Whether the version in bytes 3 and 4 is 2 if there is a strike among the events, and 1 if not.
+#[tactic(auto, unfolding(journal::specs::Acceptance::is_version, journal::specs::Encode::can_hold))]
 pub fn is_version(journal: &[u8], count: usize) -> bool
     requires { (length journal.now ≡ 544) × (count ≤ 64) }
     ensures { result ≡ is_version journal.now count }

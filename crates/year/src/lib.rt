@@ -11,7 +11,7 @@ pub const MOST_ENGINES: usize = 40;
 pub const MOST_EVENTS: u32 = 64;
 
 // A number for each pollutant: results, or standards, in result units.
-#[derive(Drop)]
+#[derive(Clone, Copy)]
 pub struct Pair {
     pub hcnox: u32,
     pub co: u32,
@@ -35,7 +35,7 @@ pub struct Setup {
 
 // What is stored for an accepted entry. `readings` is the number of readings for each pollutant. A deletion ("strike" in document 02, W-201) removes the newest
 // engine.
-#[derive(Drop)]
+#[derive(Clone, Copy)]
 pub enum Event {
     Engine {
         number: u32,
