@@ -24,8 +24,8 @@ pub record Output : Type 1 where
   pub part_of : List ℕ → List ℕ → List ℕ
   pub after_of : List ℕ → List ℕ → List ℕ
   pub refusal_of : List ℕ → List ℕ → ℕ
-  -- the call keeps the buffer's length, and the part is the front of the buffer afterwards
-  pub whole : (journal buffer : List ℕ) → length buffer ≡ length (part_of journal buffer) + length (drop (length (part_of journal buffer)) (after_of journal buffer))
+  -- the buffer keeps its length, and the part is the front of the buffer afterwards
+  pub size : (journal buffer : List ℕ) → length (after_of journal buffer) ≡ length buffer
   pub front : (journal buffer : List ℕ) → take (length (part_of journal buffer)) (after_of journal buffer) ≡ part_of journal buffer
   -- what `write` promises about the two numbers that it reports, and that these are the part's end and the refusal
   pub Answers : List ℕ → List ℕ → ℕ → ℕ → Type 0

@@ -7,8 +7,9 @@
 --     hands      hence the call meets its contract, over any tables
 use mathlib.Core.Path.{◌≡◌, refl, sym, ◌∙◌, ap}
 use Prim.Native.Nat.{ℕ, ◌+◌, ◌<◌, ◌^◌}
-use mathlib.Core.List.{List, [], ◌∷◌, ◌++◌}
-use lib.ListN.{length, take, drop as drop-list}
+use mathlib.Core.List.{List, [], ◌∷◌}
+use native.Mathlib.Omega.{arith}
+use lib.ListN.{length, take, drop as drop-list, length-take, length-drop}
 use seplogic.Ra.Ura.{Ura}
 use base.Fraction.{full_share}
 use mir.Syntax.{Callee, named, w64, ty_int}
@@ -21,7 +22,7 @@ use prog.Wp.{Calls, Loops, WpFn, Tables}
 use types.Logic.{Logic, sem}
 use contract.Monad.{fact, fact_i}
 use types.Kit.{Item, ‵, raw, ◌⊛◌, ⋆, some, later, ◌$◌, ◌∵◌, !, qed, by, move, keep, use0, use1, use2, use3, drop, rewrite, split, split3, join, pick}
-use types.Kit.{fsplit, fsplit3, fjoin, feq_l, suffices, frame, await, updating, show, done}
+use types.Kit.{fsplit, fsplit3, fjoin, feq_l, suffices, frame, await, updating, done}
 use types.Run.{look, init, forget, stop, hop, fld, from, load, addr, and_then, no_more, assigns}
 use types.Run.{land, returns, enter, alloc1, alloc0, params1, pass1, pass0, free1, free0}
 use types.Part.{agg, whole, sub, look_in}
@@ -44,7 +45,7 @@ use denote.Triple.Clauses.{closing, ensured, lasts}
 use denote.Triple.Walked.{Stays, stay_dropped, gave_ref, on_exit, walk_of, Goes-dropped, Goes-spent_slice, Goes-gave_ref, Walks, ends_at, walked, walk_Meets}
 use Rattle.front_part.specs.Lender.{LenderFinds}
 use Rattle.front_part.proofs.Again.{LentAgain, lends_again, comes_back}
-use Rattle.front_part.proofs.Front.{Handed, front_out}
+use Rattle.front_part.proofs.Front.{front_out}
 use Rattle.front_part.proofs.Form.{Output, journal, buffer, writing, handing, function, Writes, Hands}
 
 -- the journal is given to the callee, the buffer to the result, and for the refusal what remains is the statement of its last value
@@ -144,7 +145,13 @@ module _ (output : Output) {M : Type 1} {𝓤 : Ura M} (𝓛 : Logic 𝓤) (κ�
     Entire = length ys ≡ length (take r zs) + length rest
 
     entire : Entire
-    entire = rw part (output.whole j.now ys)
+    entire =
+        let after = output.after_of j.now ys in
+        let size = output.size j.now ys in
+        let front = length-take r zs in
+        let behind = length-drop (length (take r zs)) after in
+        let left = ap length ez in
+        omega (arith, count)
 
     abbrev Refused : Type 0
     Refused = z ≡ output.refusal_of j.now ys

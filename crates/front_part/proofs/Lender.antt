@@ -1,5 +1,5 @@
 -- What `LenderFinds` is worth: when the borrow is over, the lender has the buffer back, with as many bytes as the part has, and then those that were promised.
-use Rattle.std.proofs.Common.{◌≡◌, ◌∙◌, sym, refl, List, [], ◌∷◌, ◌++◌, ℕ, ◌+◌, length, length-append, arith}
+use Rattle.std.proofs.Common.{◌≡◌, refl, List, [], ◌∷◌, ◌++◌, ℕ, ◌+◌, length, length-append, arith}
 use seplogic.Ra.Ura.{Ura}
 use base.Fml.{Lft, fauth, fdead, feq, fex, flent, fsep}
 use base.Logic.{SProp, emp, ent, ex, sep}

@@ -4,7 +4,8 @@
 // by `LenderFinds` every byte behind it.
 #![tactic(auto)]
 
-ghost use Rattle.std.specs.Prelude.{◌≡◌, length, drop};
+ghost use Rattle.std.specs.Prelude.{◌≡◌, ◌+◌, length, drop};
+ghost use Rattle.std.specs.Borrow.{sem};
 ghost use Rattle.front_part.specs.Lender.{LenderFinds};
 ghost use Rattle.reference.specs.Call.{Marks, ReadStatus, Write, Ask};
 ghost use Rattle.reference.specs.Answers.{refusal_on, answer, outcome_of, outcome, out_after, out_part, output_answer};
@@ -18,8 +19,8 @@ use verdicts::status::status_of;
 
 // Status.
 pub fn read_status(journal: &[u8]) -> Answer
-    ensures value { result ≡ answer (Ask ReadStatus) journal.now }
-    ensures result_value { outcome_of result ≡ outcome (Ask ReadStatus) journal.now }
+    ensures answer { result ≡ answer (Ask ReadStatus) journal.now }
+    ensures outcome { outcome_of result ≡ outcome (Ask ReadStatus) journal.now }
 {
     let scanned = scan_journal(journal);
     let number = status_refusal(journal, scanned);
@@ -31,7 +32,7 @@ pub fn read_status(journal: &[u8]) -> Answer
 
 // Marks, at the front of the output.
 pub fn write_marks(journal: &[u8], out: &mut [u8]) -> OutputAnswer
-    ensures value { result ≡ output_answer Marks journal.now out.old }
+    ensures answer { result ≡ output_answer Marks journal.now out.old }
     ensures out_after { out.new ≡ out_after Marks journal.now out.old }
 {
     let scanned = scan_journal(journal);
@@ -49,7 +50,7 @@ pub fn write_marks(journal: &[u8], out: &mut [u8]) -> OutputAnswer
 
 // The same, with the refusal returned through a lent byte; the result is where the written part ends.
 fn write_front(journal: &[u8], out: &mut [u8], refusal: &mut u8) -> usize
-    ensures result_value { record { refusal = refusal.exit.now; length = result } ≡ output_answer Marks journal.now out.old }
+    ensures answer { record { refusal = refusal.new; length = result } ≡ output_answer Marks journal.now out.old }
     ensures out_after { out.new ≡ out_after Marks journal.now out.old }
 {
     let written = write_marks(journal, out);
@@ -58,12 +59,13 @@ fn write_front(journal: &[u8], out: &mut [u8], refusal: &mut u8) -> usize
 }
 
 // Marks, handing back just the written part of the output, an empty part if the call is refused. The contract gives the part's bytes, where the part starts,
-// that the lender of the output finds exactly the definition's bytes behind the part when the borrow ends, and the refusal. (`∗ ⊤ₛ` lets the borrow checker
-// cover a caller, which gets the other three promises.)
+// that the lender of the output finds exactly the definition's bytes behind the part when the borrow ends, that each byte of the output is in the part or behind
+// it, and the refusal.
 pub fn marks<'a>(journal: &[u8], out: &'a mut [u8], refusal: &mut u8) -> &'a mut [u8]
-    ensures result_value { result.now ≡ out_part Marks journal.now out.old }
-    ensures ref_ptr_value { result.ref_ptr ≡ out.entry.ref_ptr }
-    ensures* lender_finds { LenderFinds 𝓤 𝓛.A out.entry result (drop (length result.now) (out_after Marks journal.now out.old)) ∗ ⊤ₛ }
+    ensures part { result.now ≡ out_part Marks journal.now out.old }
+    ensures same_start { result.ref_ptr ≡ out.entry.ref_ptr }
+    ensures* lender_finds { sem 𝓛 (LenderFinds out.entry result (drop (length result.now) (out_after Marks journal.now out.old))) }
+    ensures whole { length out.old ≡ length result.now + length (drop (length result.now) (out_after Marks journal.now out.old)) }
     ensures refusal_after { refusal.new ≡ refusal_on (Ask (Write Marks (length out.old))) journal.now }
 {
     let end = write_front(journal, out, refusal);
