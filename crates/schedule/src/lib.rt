@@ -56,6 +56,7 @@ pub fn setup_in_range(setup: Setup) -> bool
 }
 
 // The number of test periods.
+#[tactic(auto, unfolding(year::specs::Periods::periods))]
 pub fn periods(volume: u32, days: u32) -> u32
     ensures { result ≡ periods volume days }
 {
@@ -75,6 +76,7 @@ pub fn periods(volume: u32, days: u32) -> u32
 }
 
 // How many engines a period needs.
+#[tactic(auto, unfolding(year::specs::Periods::needs))]
 pub fn needs(period: u32) -> u32
     ensures { result ≡ needs period }
 {

@@ -18,14 +18,14 @@ pub struct Pair {
 }
 
 // A factor for each pollutant.
-#[derive(Drop)]
+#[derive(Clone, Copy)]
 pub struct Factors {
     pub hcnox: Factor,
     pub co: Factor,
 }
 
 // Projected volume P, production days D, the first standards, the factors. Any values; `setup_in_range` says whether they are in range.
-#[derive(Drop)]
+#[derive(Clone, Copy)]
 pub struct Setup {
     pub volume: u32,
     pub days: u32,
