@@ -30,7 +30,7 @@ module _ (numbers first second : List ℕ) (room : 20 ≤ length numbers) (nine 
       let place : 11 ≡ 2 + length first = omega arith in
       rw (one, two) (ap (λ (at : ℕ). put (put numbers 2 first) at second) place ∙ put-put numbers 2 first second (omega arith))
 
-  pub both_long : length (put_mid 11 (20 - 11) (put_mid 2 (11 - 2) numbers first) second) ≡ length numbers
+  both_long : length (put_mid 11 (20 - 11) (put_mid 2 (11 - 2) numbers first) second) ≡ length numbers
   both_long = ap length both-put ∙ length-put numbers 2 (first ++ second) (omega (arith, length-append first second))
 
   pub all-put : (a b : ℕ)

@@ -84,7 +84,7 @@ fn no_status() -> Status
 // Puts the numbers of an answer at the front of a lent slice, and returns its refusal, 0 for none.
 pub fn put_answer(numbers: &mut [u64], answer: Answer) -> u8
     requires { 20 ≤ length numbers.old }
-    ensures value { result ≡ (outcome_of answer).refusal }
+    ensures refusal { result ≡ (outcome_of answer).refusal }
     ensures numbers_after { numbers.new ≡ put numbers.old 0 (status_numbers (outcome_of answer).status) }
 {
     match answer {

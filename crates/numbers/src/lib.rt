@@ -19,8 +19,8 @@ pub enum Numbers {
 
 // A space at a position, and the number after it.
 pub fn spaced_number(line: &[u8], at: usize) -> Number
-    ensures value { result ≡ spaced_number line.now at }
-    ensures result_value { number_outcome_of result ≡ spaced_outcome line.now at }
+    ensures number { result ≡ spaced_number line.now at }
+    ensures outcome { number_outcome_of result ≡ spaced_outcome line.now at }
 {
     if line.len() <= at {
         return Number::Nothing;
@@ -33,12 +33,14 @@ pub fn spaced_number(line: &[u8], at: usize) -> Number
 
 // Reads the numbers after a line's letter, to the line's end, into the front of `values`. Each takes two bytes or more, so 64 bytes hold at most 31.
 pub fn read_numbers(line: &[u8], values: &mut [u32]) -> Numbers
-    requires { (1 ≤ length line.now) × (length line.now ≤ 64) × (length values.old ≡ 31) }
-    ensures value { result ≡ counted (numbers_from (length line.now) line.now 1) }
-    ensures result_value { numbers_outcome_of result ≡ numbers_outcome line.now }
-    ensures values_after { take (numbers_outcome_of result).count values.new ≡ listed (numbers_from (length line.now) line.now 1) }
-    ensures result_bound { (numbers_outcome_of result).count ≤ 31 }
-    ensures values_after_2 { values.new ≡ put values.old 0 (numbers_read (length line.now) line.now 1) }
+    requires some_line { 1 ≤ length line.now }
+    requires line_size { length line.now ≤ 64 }
+    requires room { length values.old ≡ 31 }
+    ensures numbers { result ≡ counted (numbers_from (length line.now) line.now 1) }
+    ensures outcome { numbers_outcome_of result ≡ numbers_outcome line.now }
+    ensures front { take (numbers_outcome_of result).count values.new ≡ listed (numbers_from (length line.now) line.now 1) }
+    ensures at_most_31 { (numbers_outcome_of result).count ≤ 31 }
+    ensures values_after { values.new ≡ put values.old 0 (numbers_read (length line.now) line.now 1) }
 {
     let mut at: usize = 1;
     let mut n: usize = 0;

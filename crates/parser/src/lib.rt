@@ -101,6 +101,7 @@ fn bare_request(call: CallRequest, values: &[u32]) -> Request
 }
 
 // What a letter and its numbers ask for.
+#[tactic(auto, unfolding(protocol::specs::KeyLine::call_of))]
 pub fn requested(letter: u8, values: &[u32]) -> Request
     ensures { Requests result values.now (call_of letter values.now) }
 {

@@ -41,7 +41,8 @@ fn read_digits(line: &[u8], at: usize) -> Digits
 
 // Whether the digits from `at` up to `end` are a number: 1 to 8 of them, with no leading zero except in 0 itself.
 fn is_number(line: &[u8], at: usize, end: usize) -> bool
-    requires { (at ≤ end) × (end ≤ at + digits (drop at line.now)) }
+    requires after { at ≤ end }
+    requires among { end ≤ at + digits (drop at line.now) }
     ensures { result ≡ is_number line.now at (end - at) }
 {
     if end <= at {

@@ -17,23 +17,24 @@ pub struct Reader<'a> {
 }
 
 pub fn new<'a>(line: &'a [u8], at: usize) -> Reader<'a>
-    ensures { (result.line ≡ line.entry) × (result.at ≡ at) }
+    ensures line { result.line ≡ line.entry }
+    ensures at { result.at ≡ at }
 {
     Reader { line, at }
 }
 
 // The number at the reader's position.
 pub fn next_number<'a>(r: Reader<'a>) -> Number
-    ensures value { result ≡ number_at r.entry.line.now r.entry.at }
-    ensures result_value { number_outcome_of result ≡ number_outcome r.entry.line.now r.entry.at }
+    ensures number { result ≡ number_at r.entry.line.now r.entry.at }
+    ensures outcome { number_outcome_of result ≡ number_outcome r.entry.line.now r.entry.at }
 {
     number_at(r.line, r.at)
 }
 
 // The number at a position of a line, through a reader: for callers that do not hold one.
 pub fn read_number(line: &[u8], at: usize) -> Number
-    ensures value { result ≡ number_at line.now at }
-    ensures result_value { number_outcome_of result ≡ number_outcome line.now at }
+    ensures number { result ≡ number_at line.now at }
+    ensures outcome { number_outcome_of result ≡ number_outcome line.now at }
 {
     next_number(new(line, at))
 }

@@ -1,7 +1,7 @@
 -- Text at the front of an output, as a reply; and the reply with the marks.
-use mathlib.Core.Path.{◌≡◌, refl}
+use mathlib.Core.Path.{refl}
 use mathlib.Core.List.{List, [], ◌∷◌}
-use Prim.Native.Nat.{ℕ, zero, suc, ◌+◌, ◌≤◌, ◌<◌}
+use Prim.Native.Nat.{ℕ, ◌+◌, ◌≤◌, ◌<◌}
 use native.Mathlib.Omega.{arith}
 use lib.ListN.{length}
 use Rattle.buffers.specs.Bytes.{put}
@@ -14,10 +14,6 @@ use Rattle.replies.specs.Replied.{Replied, marks_front}
 -- text at the front is a reply
 pub replied : {before bytes after : List ℕ} {end : ℕ} → Written before 0 bytes after end → end < 96 → Replied before bytes after end
 replied w h = record { out = w.out; size = omega (arith, w.position); fits = h }
-
-pub front-some : (n : ℕ) → (n ≡ 0 → ⊥) → marks_front n ≡ text "OK "
-front-some zero h = absurd (h refl)
-front-some (suc n) h = refl
 
 -- writing the marks three bytes from the front, and then what comes before them, gives the reply with the marks
 pub marks-replied : (before marks : List ℕ) → 96 ≤ length before → length marks ≤ 80

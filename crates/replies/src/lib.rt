@@ -51,9 +51,10 @@ pub fn write_answer(answer: Answer, out: &mut [u8]) -> usize
 
 // What precedes the marks: "OK" and a space, or "OK" alone with no engine. The marks themselves, `count` bytes, are already in place.
 pub fn write_marks_front(count: usize, out: &mut [u8]) -> usize
-    requires { (96 ≤ length out.old) × (count ≤ 80) }
-    ensures out_after { out.new ≡ put out.old 0 (marks_front count) }
-    ensures value { result ≡ length (marks_front count) + count }
+    requires room { 96 ≤ length out.old }
+    requires at_most_80 { count ≤ 80 }
+    ensures front { out.new ≡ put out.old 0 (marks_front count) }
+    ensures size { result ≡ length (marks_front count) + count }
 {
     if count == 0 {
         return put_bytes(b"OK", out, 0);

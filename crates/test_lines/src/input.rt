@@ -1,15 +1,15 @@
 // Lines of the input.
 ghost use Rattle.std.specs.Prelude.{◌≡◌, ◌≤◌, ◌<◌, length};
 
+use crate::INPUT;
 use crate::lines::text;
 use crate::numbers::read_arguments;
 use io::read_full;
-use libc::STDIN_FILENO;
 
 // The next byte of the input; a newline at its end.
 fn next_byte() -> u8 {
     let mut one = [10u8; 1];
-    if read_full(STDIN_FILENO, &mut one) == 0 {
+    if read_full(INPUT, &mut one) == 0 {
         return 10;
     }
     one[0]
@@ -41,7 +41,9 @@ fn say(line: &[u8]) {
 
 // Returns a line's letter, and reads its numbers into `numbers`, which must be zeroed. The letter T precedes words, which are printed.
 fn obey_line(line: &[u8], numbers: &mut [u32]) -> u8
-    requires { (0 < length line.now) × (length line.now ≤ 256) × (length numbers.old ≡ 300) }
+    requires some_line { 0 < length line.now }
+    requires line_size { length line.now ≤ 256 }
+    requires numbers_size { length numbers.old ≡ 300 }
 {
     if line[0] == b'T' {
         say(line);

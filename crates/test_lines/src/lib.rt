@@ -4,3 +4,8 @@
 pub mod input;
 pub mod lines;
 pub mod numbers;
+
+// The descriptors of the standard input and output.
+pub const INPUT: i32 = 0;
+
+pub const OUTPUT: i32 = 1;

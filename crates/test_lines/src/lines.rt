@@ -1,16 +1,16 @@
 // Printed lines: numbers with a space before each but the first.
+use crate::OUTPUT;
 use cumsum::Mark;
 use io::{print_decimal, write_all};
-use libc::STDOUT_FILENO;
 use statistics::SampleSize;
 use year::{Figures, Status};
 
 pub fn text(s: &[u8]) {
-    write_all(STDOUT_FILENO, s);
+    write_all(OUTPUT, s);
 }
 
 pub fn number(n: u64) {
-    print_decimal(STDOUT_FILENO, n);
+    print_decimal(OUTPUT, n);
 }
 
 pub fn next(n: u64) {

@@ -25,7 +25,8 @@ fn place_after(place: usize, b: u8) -> usize
 
 // Reads the numbers of a text into `out`, which must be zeroed; returns how many there are.
 pub fn read_numbers(text: &[u8], out: &mut [u32]) -> usize
-    requires { (length text.now < length out.old) × (length out.old < 1000) }
+    requires room { length text.now < length out.old }
+    requires out_size { length out.old < 1000 }
 {
     let mut place: usize = 0;
     let mut i: usize = 0;
@@ -40,7 +41,8 @@ pub fn read_numbers(text: &[u8], out: &mut [u32]) -> usize
 
 // Reads the numbers of a line, from its third byte on, into `numbers`, which must be zeroed.
 pub fn read_arguments(line: &[u8], numbers: &mut [u32])
-    requires { (length line.now ≤ 256) × (length numbers.old ≡ 300) }
+    requires line_size { length line.now ≤ 256 }
+    requires numbers_size { length numbers.old ≡ 300 }
 {
     if 2 < line.len() {
         read_numbers(&line[2..], numbers);

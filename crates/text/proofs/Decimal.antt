@@ -17,9 +17,6 @@ few-digits i k n h l f =
     let fewer : k < i + 1 = lt_of_not-le (λ over. omega (arith, f.2 (omega arith), pow-le-pow_right {n = 10} (lit< tt) {i = i} {j = k - 1} (omega arith))) in
     omega arith
 
-pub twenty-digits : (k n : ℕ) → n < 2 ^ 64 → IsDigitCount 10 1 n k → k ≤ 20
-twenty-digits k n l f = few-digits 20 k n (omega arith) (omega arith) f
-
 -- if n is at least ten, n / 10 has one digit less
 module _ (n k : ℕ) (h : 10 ≤ n) (f : IsDigitCount 10 1 n (suc k)) where
   some_left : 1 ≤ k

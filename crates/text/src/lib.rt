@@ -28,7 +28,7 @@ pub fn put_bytes(bytes: &[u8], out: &mut [u8], at: usize) -> usize
 fn put_decimal(n: u64, out: &mut [u8], at: usize) -> usize
     requires { at + 20 ≤ length out.old }
     ensures written { Written out.old at (decimal n) out.new result }
-    ensures upper_bound { result ≤ at + 20 }
+    ensures at_most { result ≤ at + 20 }
 {
     let mut digits = [0u8; 20];
     let count = io::decimal(n, &mut digits);
@@ -39,7 +39,7 @@ fn put_decimal(n: u64, out: &mut [u8], at: usize) -> usize
 pub fn put_number(n: u64, out: &mut [u8], at: usize) -> usize
     requires { at + 21 ≤ length out.old }
     ensures written { Written out.old at (spaced (decimal n)) out.new result }
-    ensures upper_bound { result ≤ at + 21 }
+    ensures at_most { result ≤ at + 21 }
 {
     let after = put_bytes(b" ", out, at);
     put_decimal(n, out, after)
@@ -49,7 +49,7 @@ pub fn put_number(n: u64, out: &mut [u8], at: usize) -> usize
 pub fn put_size(size: SampleSize, out: &mut [u8], at: usize) -> usize
     requires { at + 21 ≤ length out.old }
     ensures written { Written out.old at (spaced (size_text size)) out.new result }
-    ensures upper_bound { result ≤ at + 21 }
+    ensures at_most { result ≤ at + 21 }
 {
     match size {
         SampleSize::Tenths(tenths) => put_number(tenths, out, at),
