@@ -14,7 +14,7 @@ use Rattle.statistics.specs.Spread.{Test}
 use Rattle.statistics.specs.Ranges.{TestsInRange}
 use Rattle.year.specs.declared.Pair.{Pair}
 use Rattle.year.specs.Setup.{Pollutant, Hcnox, Co}
-use Rattle.year.specs.Replay.{Tested, history, is_tested, newest_in}
+use Rattle.year.specs.Replay.{Tested, history, is_tested}
 use Rattle.figures.specs.declared.Running.{Running}
 use Rattle.figures.specs.Running.{running, RunningInRange}
 use Rattle.engines.specs.declared.Engines.{Engines}
@@ -139,11 +139,6 @@ module _ (e : Engines) where
       standards-kept : (q : Pollutant) → length (standard_column q without-newest) ≡ 40
       standards-kept Hcnox = s.standards Hcnox
       standards-kept Co = s.standards Co
-
--- the newest engine's period is at the last place in use
-pub newest-at : (e : Engines) (period n : ℕ) → 1 ≤ n → newest_in period (tested_to e n) ≡ eqb (get_or e.periods (n - 1) 0) period
-newest-at e period zero h = absurd (omega arith)
-newest-at e period (suc n) h = let m : suc n - 1 ≡ n = omega arith in rw m
 
 -- whether a number is among the first i of a list
 abbrev pub among : List ℕ → ℕ → ℕ → Bool

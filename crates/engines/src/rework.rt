@@ -46,8 +46,8 @@ pub struct Reworked {
 // One loop for both pollutants, which takes half the time of two.
 pub fn rework(e: Engines, resolution: u64) -> Reworked
     requires { EnginesInRange e resolution }
-    ensures hcnox_value { result.hcnox ≡ running resolution (history Hcnox (tested e)) }
-    ensures co_value { result.co ≡ running resolution (history Co (tested e)) }
+    ensures hcnox { result.hcnox ≡ running resolution (history Hcnox (tested e)) }
+    ensures co { result.co ≡ running resolution (history Co (tested e)) }
 {
     let count = e.count;
     let hcnox_results = e.hcnox_results;

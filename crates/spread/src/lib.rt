@@ -7,7 +7,7 @@ pub mod summing;
 pub mod variance;
 
 // n, S, Q and V of one pollutant's results.
-#[derive(Drop)]
+#[derive(Clone, Copy)]
 pub struct Sums {
     pub n: u64,
     pub total: u64,
