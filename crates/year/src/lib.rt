@@ -49,7 +49,7 @@ pub enum Event {
 }
 
 // One pollutant of a status: S, s and e, both C, both H, N in tenths, and the newest mark.
-#[derive(Drop)]
+#[derive(Clone, Copy)]
 pub struct Figures {
     pub sum: u64,
     pub deviation: Deviation,
