@@ -29,11 +29,11 @@ pub fn results_in_range(results: Pair) -> bool
 }
 
 // An engine: its number is in range and new, it has 1 to 3 readings, its results are in range, and there is room for it.
-fn engine_fits(p: Progress, number: u32, readings: u32, results: Pair) -> bool
-    requires { Consistent p }
-    ensures { result ≡ fits (progress_of p) (Event.Engine number readings results) }
+fn engine_fits(p: &Progress, number: u32, readings: u32, results: Pair) -> bool
+    requires { Consistent p.now }
+    ensures { result ≡ fits (progress_of p.now) (Event.Engine number readings results) }
 {
-    let engines = p.engines;
+    let engines = &p.engines;
     let named = both(number_in_range(number), !is_tested(engines, number));
     let read = both(named, count_in_range(readings as usize));
     both(
@@ -43,27 +43,27 @@ fn engine_fits(p: Progress, number: u32, readings: u32, results: Pair) -> bool
 }
 
 // The next period: there is one, and the current one is not short.
-pub fn period_fits(p: Progress) -> bool
-    requires { Consistent p }
-    ensures { result ≡ fits (progress_of p) Event.NextPeriod }
+pub fn period_fits(p: &Progress) -> bool
+    requires { Consistent p.now }
+    ensures { result ≡ fits (progress_of p.now) Event.NextPeriod }
 {
     let last = periods(p.setup.volume, p.setup.days) <= p.period;
     !either(last, is_short(p.current, p.period))
 }
 
 // A deletion ("strike"): the newest engine was entered in the current period.
-pub fn deletion_fits(p: Progress) -> bool
-    requires { Consistent p }
-    ensures { result ≡ fits (progress_of p) Event.Deletion }
+pub fn deletion_fits(p: &Progress) -> bool
+    requires { Consistent p.now }
+    ensures { result ≡ fits (progress_of p.now) Event.Deletion }
 {
-    let engines = p.engines;
+    let engines = &p.engines;
     newest_in(engines, p.period)
 }
 
 // The conditions that depend on the event's kind.
-fn event_fits(p: Progress, e: Event) -> bool
-    requires { Consistent p }
-    ensures { result ≡ fits (progress_of p) e }
+fn event_fits(p: &Progress, e: Event) -> bool
+    requires { Consistent p.now }
+    ensures { result ≡ fits (progress_of p.now) e }
 {
     match e {
         Event::Engine {
@@ -79,9 +79,10 @@ fn event_fits(p: Progress, e: Event) -> bool
 }
 
 // The event could be entered now.
-pub fn is_admissible(p: Progress, e: Event) -> bool
-    requires { Consistent p }
-    ensures { result ≡ admissible (progress_of p) e }
+#[tactic(auto, unfolding(year::specs::Admissible::admissible))]
+pub fn is_admissible(p: &Progress, e: Event) -> bool
+    requires { Consistent p.now }
+    ensures { result ≡ admissible (progress_of p.now) e }
 {
     both(both(!closed(p), p.stored < MOST_EVENTS), event_fits(p, e))
 }

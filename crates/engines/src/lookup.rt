@@ -6,9 +6,9 @@ ghost use Rattle.engines.specs.Engines.{tested};
 use crate::Engines;
 use conditions::either;
 
-pub fn is_tested(e: Engines, number: u32) -> bool
-    requires { e.count ≤ 40 }
-    ensures { result ≡ is_tested number (tested e) }
+pub fn is_tested(e: &Engines, number: u32) -> bool
+    requires { e.now.count ≤ 40 }
+    ensures { result ≡ is_tested number (tested e.now) }
 {
     let numbers = e.numbers;
     let count = e.count;
@@ -22,9 +22,9 @@ pub fn is_tested(e: Engines, number: u32) -> bool
 }
 
 // Whether the newest engine was tested in a period; false if there is no engine.
-pub fn newest_in(e: Engines, period: u32) -> bool
-    requires { e.count ≤ 40 }
-    ensures { result ≡ newest_in period (tested e) }
+pub fn newest_in(e: &Engines, period: u32) -> bool
+    requires { e.now.count ≤ 40 }
+    ensures { result ≡ newest_in period (tested e.now) }
 {
     let periods = e.periods;
     let count = e.count;

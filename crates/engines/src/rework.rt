@@ -44,10 +44,10 @@ pub struct Reworked {
 }
 
 // One loop for both pollutants, which takes half the time of two.
-pub fn rework(e: Engines, resolution: u64) -> Reworked
-    requires { EnginesInRange e resolution }
-    ensures hcnox { result.hcnox ≡ running resolution (history Hcnox (tested e)) }
-    ensures co { result.co ≡ running resolution (history Co (tested e)) }
+pub fn rework(e: &Engines, resolution: u64) -> Reworked
+    requires { EnginesInRange e.now resolution }
+    ensures hcnox { result.hcnox ≡ running resolution (history Hcnox (tested e.now)) }
+    ensures co { result.co ≡ running resolution (history Co (tested e.now)) }
 {
     let count = e.count;
     let hcnox_results = e.hcnox_results;

@@ -1,21 +1,19 @@
--- The state after a setup, and after one more event: it represents the year with that event, and what it carries is computed from that year.
+-- The state after one more event: it represents the year with that event, and what it carries is computed from that year.
 use mathlib.Core.Path.{◌≡◌, refl, sym, subst}
-use mathlib.Core.Bool.{Bool, true, false}
-use mathlib.Core.List.{List, [], ◌∷◌}
+use mathlib.Core.Bool.{Bool, true}
+use mathlib.Core.List.{List, ◌∷◌}
 use Prim.Native.Nat.{ℕ, ◌+◌, ◌-◌}
 use native.Mathlib.Omega.{arith}
 use lib.ListN.{drop}
 use borrow.Author.Tests.{eq-eqb}
 use Rattle.statistics.specs.Spread.{Test}
 use Rattle.year.specs.declared.Pair.{Pair}
-use Rattle.year.specs.declared.Setup.{Setup}
 use Rattle.year.specs.declared.Event.{Event}
 use Rattle.year.specs.declared.Event.TheVariants.{Engine, Amendment, NextPeriod, Declaration, Deletion}
-use Rattle.year.specs.Setup.{setup_in_range}
-use Rattle.year.specs.Replay.{Progress, start, after, tested_in}
+use Rattle.year.specs.Replay.{Progress, after, tested_in}
 use Rattle.year.specs.Admissible.{admissible}
 use Rattle.year.specs.Ranges.{InRange}
-use Rattle.year.proofs.Ranges.{start-in-range, after-in-range, none-in-next, fitting}
+use Rattle.year.proofs.Ranges.{after-in-range, none-in-next, fitting}
 use Rattle.figures.specs.declared.Running.{Running}
 use Rattle.figures.specs.Running.{running}
 use Rattle.engines.specs.declared.Engines.{Engines}
@@ -27,19 +25,6 @@ use Rattle.progress.proofs.Carried.{newest-counted}
 -- the state represents this year, and is consistent
 abbrev pub Represents : State → Progress → Type 0
 Represents p y = (progress_of p ≡ y) × Consistent p
-
--- the state before the first event
-abbrev first : Setup → Engines → Running → Running → State
-first s e h c =
-    record { setup = s; standards = s.standards; period = 1; engines = e; stored = 0; declared = false; current = 0; hcnox = h; co = c }
-
-pub started : (s : Setup) (e : Engines) (h c : Running) → tested e ≡ [] → h ≡ running 1024 [] → c ≡ running 1024 []
-    → (progress_of (first s e h c) ≡ start s) × (setup_in_range s ≡ true → Consistent (first s e h c))
-started s e h c te hh hc =
-    (stands, λ r. record { in_range = subst InRange (sym stands) (start-in-range s r); current = rw te; figures = record { hcnox = rw te hh; co = rw te hc } })
-  where
-    stands : record { setup = s; standards = s.standards; period = 1; tested = tested e; stored = 0; declared = false } ≡ start s
-    stands = rw te
 
 -- a state with one more event that leaves the engines
 abbrev changed : State → Pair → ℕ → Bool → ℕ → State

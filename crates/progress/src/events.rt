@@ -13,7 +13,7 @@ use year::{Event, Pair, Setup};
 
 // A setup with no events, in range or not.
 pub fn start(setup: Setup) -> Progress
-    ensures result_value { progress_of result ≡ start setup }
+    ensures year { progress_of result ≡ start setup }
     ensures consistent { setup_in_range setup ≡ true → Consistent result }
 {
     let standards = setup.standards;
@@ -33,7 +33,7 @@ pub fn start(setup: Setup) -> Progress
 // An engine: it is added to both pollutants' figures under the standards in force.
 fn engine(p: Progress, number: u32, readings: u32, results: Pair) -> Progress
     requires { Consistent p × (admissible (progress_of p) (Event.Engine number readings results) ≡ true) }
-    ensures result_value { progress_of result ≡ after (Event.Engine number readings results) (progress_of p) }
+    ensures year { progress_of result ≡ after (Event.Engine number readings results) (progress_of p) }
     ensures consistent { Consistent result }
 {
     let setup = p.setup;
@@ -57,27 +57,28 @@ fn engine(p: Progress, number: u32, readings: u32, results: Pair) -> Progress
 // A deletion ("strike"): the newest engine goes, and the figures are those of the engines that remain.
 fn deletion(p: Progress) -> Progress
     requires { Consistent p × (admissible (progress_of p) Event.Deletion ≡ true) }
-    ensures result_value { progress_of result ≡ after Event.Deletion (progress_of p) }
+    ensures year { progress_of result ≡ after Event.Deletion (progress_of p) }
     ensures consistent { Consistent result }
 {
     let rest = without_newest(p.engines);
-    let worked = rework(rest, RESOLUTION);
+    let worked = rework(&rest, RESOLUTION);
     let hcnox = worked.hcnox;
     let co = worked.co;
-    let mut next = p;
-    next.engines = rest;
-    next.stored = p.stored + 1;
-    next.current = p.current - 1;
-    next.hcnox = hcnox;
-    next.co = co;
-    next
+    Progress {
+        engines: rest,
+        stored: p.stored + 1,
+        current: p.current - 1,
+        hcnox,
+        co,
+        ..p
+    }
 }
 
 // The state with one more event, which must be admissible. `slots::enter_slots` takes the same step in place, its arms in the same order: a change to one must
 // be made to both.
 pub fn after(p: Progress, e: Event) -> Progress
     requires { Consistent p × (admissible (progress_of p) e ≡ true) }
-    ensures result_value { progress_of result ≡ after e (progress_of p) }
+    ensures year { progress_of result ≡ after e (progress_of p) }
     ensures consistent { Consistent result }
 {
     match e {
@@ -89,20 +90,20 @@ pub fn after(p: Progress, e: Event) -> Progress
         Event::Amendment(standards) => {
             let mut next = p;
             next.standards = standards;
-            next.stored = p.stored + 1;
+            next.stored += 1;
             next
         }
         Event::NextPeriod => {
             let mut next = p;
-            next.period = p.period + 1;
+            next.period += 1;
             next.current = 0;
-            next.stored = p.stored + 1;
+            next.stored += 1;
             next
         }
         Event::Declaration => {
             let mut next = p;
             next.declared = true;
-            next.stored = p.stored + 1;
+            next.stored += 1;
             next
         }
         Event::Deletion => deletion(p),

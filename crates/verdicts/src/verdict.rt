@@ -80,9 +80,9 @@ pub fn verdict(p: Progress) -> u8
 }
 
 // The verdict is 6 or 7.
-pub fn closed(p: Progress) -> bool
-    requires { Consistent p }
-    ensures { result ≡ closed (progress_of p) }
+pub fn closed(p: &Progress) -> bool
+    requires { Consistent p.now }
+    ensures { result ≡ closed (progress_of p.now) }
 {
     let hcnox = p.hcnox;
     let co = p.co;

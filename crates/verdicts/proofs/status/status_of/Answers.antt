@@ -1,0 +1,19 @@
+use Rattle.std.proofs.Common.{arith}
+use Rattle.year.specs.Setup.{Hcnox, Co}
+use Rattle.year.specs.Replay.{history}
+use Rattle.engines.specs.Engines.{tested}
+use Rattle.progress.proofs.Carried.{counted, count-le}
+use Rattle.verdicts.proofs.status.status_of.Goals as goal
+
+pub overflow_cast-result : goal.overflow_cast-result
+overflow_cast-result c = omega (arith, count-le c.args.p c.requires)
+
+pub returns : goal.returns
+returns c =
+    let p = c.args.p in
+    rw (
+      c.verdict.ensures,
+      c.figures_of.ensures 1024 (history Hcnox (tested p.engines)) c.requires.figures.hcnox,
+      c.figures_of-2.ensures 1024 (history Co (tested p.engines)) c.requires.figures.co,
+      counted p c.requires,
+    )

@@ -1,0 +1,30 @@
+-- Each row's test is the definition's, by what the state carries.
+use Rattle.year.specs.Setup.{Hcnox, Co}
+use Rattle.year.specs.Replay.{history}
+use Rattle.year.specs.Verdict.{verdict}
+use Rattle.engines.specs.Engines.{tested}
+use Rattle.progress.proofs.Carried.{counted, failed-is, undecided-is}
+use Rattle.verdicts.proofs.verdict.verdict_by.Goals as goal
+
+pub returns : goal.returns
+unfolding verdict
+returns c =
+    let p = c.args.p in
+    let k = c.requires.consistent in
+    λ m f.
+    rw (
+      c.first_verdict.ensures,
+      c.one_percent.ensures,
+      c.both-stop.ensures,
+      c.reached-2.ensures m (history Co (tested p.engines)) f.co,
+      c.reached.ensures m (history Hcnox (tested p.engines)) f.hcnox,
+      c.is_short-short.ensures,
+      k.current,
+      c.either-undecided.ensures,
+      undecided-is p k m Hcnox c.args.hcnox f.hcnox,
+      undecided-is p k m Co c.args.co f.co,
+      ← failed-is p k m Hcnox c.args.hcnox f.hcnox,
+      ← failed-is p k m Co c.args.co f.co,
+      ← c.either-failed.ensures,
+      counted p k,
+    )
