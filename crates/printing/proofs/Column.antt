@@ -21,7 +21,7 @@ use Rattle.figures.specs.Running.{running, RunningInRange}
 use Rattle.marking.specs.Ranges.{NextInRange}
 use Rattle.figures.proofs.OneMore.{running-sums, later, sums-in-range, deviation-fits, next_fits, limit-fits}
 use Rattle.engines.specs.Engines.{tests_to, ColumnsInRange}
-use Rattle.engines.proofs.Arrays.{tests-length, columns-few, columns-room}
+use Rattle.engines.proofs.Arrays.{tests-length, columns-few, columns-before, columns-room}
 use Rattle.printing.specs.Columns.{MarkedTo}
 
 -- the engine at a place
@@ -39,19 +39,21 @@ pub record Carried (k : ℕ) (xs ts : List ℕ) (i : ℕ) (column : List ℕ) (s
 pub carried-start : (k : ℕ) (xs ts : List ℕ) (s : Sums) → s ≡ sums [] → Carried k xs ts 0 (replicate 40 (byte "-")) s (record { low = 0; high = 0 })
 carried-start k xs ts s e = record { summed = e; totalled = refl; places = refl; first = refl; marked = λ i h. absurd (omega arith) }
 
-module _ {k : ℕ} {xs ts : List ℕ} {i : ℕ} {column : List ℕ} {s : Sums} {c : Interval} (w : Carried k xs ts i column s c) (fits : ColumnsInRange xs ts (i + 1) k) where
+module _ {k : ℕ} {xs ts : List ℕ} {i n : ℕ} {column : List ℕ} {s : Sums} {c : Interval} (w : Carried k xs ts i column s c) (all : ColumnsInRange xs ts n k)
+    (inside : i < n) where
   -- the figures of the engines before i; only their sums and C are carried
   abbrev before : Running
   before = running k (tests_to xs ts i)
 
-  -- the place i and the engine there are in range
-  pub in-range : (i < 40) × (get_or xs i 0 ≤ 20000) × (get_or ts i 0 ≤ 20000)
-  in-range =
-      let r : ColumnsInRange xs ts (suc i) k = rw (add-one) at fits in
-      (columns-few xs ts k (suc i) r, r.history.tests.0, r.history.tests.1)
+  -- the engines up to and including the one at i are in range, and its place is one of 40
+  fits : ColumnsInRange xs ts (suc i) k
+  fits = columns-before xs ts k n (suc i) (omega arith) all
+
+  pub in-range : i < 40
+  in-range = columns-few xs ts k (suc i) fits
 
   room : RunningInRange k before (get_or xs i 0)
-  room = columns-room xs ts k i before (rw (add-one) at fits) refl
+  room = columns-room xs ts k i before fits refl
 
   pub sums-room : SumsInRange s (get_or xs i 0)
   unfolding running
