@@ -3,7 +3,8 @@
 # runs, and nothing for empty input; the figures of the worked years are the stored ones, also from a journal's file.
 set -euo pipefail
 cd "$(dirname "$0")/.."
-library=target/staticlib/libplt.a
+library=crates/plt/out/libplt.a
+mkdir -p target
 strict="-Wall -Wextra -Werror -pedantic-errors -O2 -Iinclude"
 for name in $(grep -oE '\bPLT_[A-Z_0-9]+\b' include/plt.h | sort -u); do
     [ "$name" = PLT_H ] || grep -qw "$name" tests/header.c || { echo "tests/header.c does not try $name" && exit 1; }
@@ -14,7 +15,7 @@ c++ -std=c++11 $strict -x c++ tests/header.c -x none "$library" -o target/header
 target/header
 
 cc -std=c11 $strict examples/calculator.c "$library" -o target/calculator_c
-rustc --edition 2024 -D warnings -O examples/calculator.rs -L target/staticlib -l static=plt -o target/calculator_rust
+rustc --edition 2024 -D warnings -O examples/calculator.rs -L crates/plt/out -l static=plt -o target/calculator_rust
 for program in target/calculator_c target/calculator_rust; do
     for run in calculator run_years run_lines; do
         "$program" <"crates/$run/stdin" | cmp - "crates/$run/stdout"

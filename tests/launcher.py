@@ -13,23 +13,25 @@ import subprocess
 import tempfile
 import time
 
-COMMANDS = 'awk bash cat chmod cut dirname env find flock grep mkdir mktemp nproc readlink rm sh sleep tail touch'.split()
+COMMANDS = 'awk basename bash cat chmod cut dirname env find flock grep mkdir mktemp nproc readlink rm sh sleep tail touch'.split()
 CRATES = 'low:\nhigh: low io\ncalculator: high\nother: low\n'
 # Proves three crates, slowly and with a child of its own if there is a file `slow`, and builds a program that repeats its input; or fails with the status in the
 # file `fail`. It leaves a temporary file behind.
 STAND_IN = '''#!/bin/sh
-[ "$*" = "check calculator" ] || exit 99
+[ "$*" = run ] && [ "$(basename "$PWD")" = calculator ] || exit 99
+mkdir -p out
+: >out/kept
+cd ../..
 echo build >>builds
-for crate in low high; do echo "rt: $crate proved (0 s)"; done
+for crate in low high; do echo "logic=proved functions=1"; done
 echo "$TMPDIR" >folder
 : >"$TMPDIR/left"
 [ ! -f slow ] || { sleep 20 & echo $! >child; sleep 1.2; kill $!; }
 echo "something on standard error" >&2
 [ ! -f fail ] || exit "$(cat fail)"
-mkdir -p target/bin
-printf '#!/bin/sh\\nexec cat\\n' >target/bin/calculator
-chmod +x target/bin/calculator
-echo "rt: calculator proved (0 s)"
+printf '#!/bin/sh\\nexec cat\\n' >crates/calculator/out/calculator
+chmod +x crates/calculator/out/calculator
+echo "logic=proved functions=1"
 '''
 
 
@@ -94,6 +96,7 @@ def prepare(folder):
     home = folder + '/a home'
     write(home + '/crates.txt', CRATES)
     write(home + '/crates/low/src/lib.rt', '')
+    write(home + '/crates/calculator/src/main.rt', '')
     for file in ('calculator', 'tools/checker_settings.sh'):
         os.makedirs(os.path.dirname(home + '/' + file), exist_ok=True)
         shutil.copy(file, home + '/' + file)
@@ -124,7 +127,7 @@ def failures(with_rt, program, home, log):
     for _ in range(2):
         status, out, err = run(with_rt, program)
         assert status == 3 and not out and 'status 3' in err and log in err and 'something on standard error' in err
-        write(home + '/target/bin/calculator', '#!/bin/sh\necho wrong\n', 0o755)
+        write(home + '/crates/calculator/out/calculator', '#!/bin/sh\necho wrong\n', 0o755)
     os.remove(home + '/fail')
 
 
@@ -141,7 +144,7 @@ def main():
         assert (status, out) == (0, 'L\n'), (status, out, err)
         assert len(err.splitlines()) == 2 and 'proved' not in err and re.search('crate [0-3] of 3, [0-9]+ s\n', err), err
         with open(log) as f:
-            assert f.read().count('rt: ') == 3 and builds(home) == 3
+            assert f.read().count('logic=proved') == 3 and builds(home) == 3
         # Built: neither rt nor a word on standard error. Then a source changes.
         assert run(without_rt, link) == (0, 'L\n', '') and builds(home) == 3
         write(home + '/crates/low/src/lib.rt', 'changed')

@@ -1,7 +1,7 @@
 #!/usr/bin/env python3
 """Runs every example of docs/MANUAL.md and compares: key lines and replies, shell commands and what they print, and what each slip would reply.
 
-Run from the repository's root, after target/bin/calculator and target/figures are built. The blocks of the manual:
+Run from the repository's root, after crates/calculator/out/calculator and target/figures are built. The blocks of the manual:
   keys               a line and its reply on each side of an arrow, keyed from an empty journal; \\r, \\t and \\xNN are bytes
   console            $ and a command, and what it prints
   slip NAME YEAR     lines of examples/YEAR.txt with their replies, and what a calculator that makes the slip NAME (tools/slips.py) replies: all lines but L where
@@ -18,7 +18,7 @@ import slips
 from model import t95
 
 MANUAL = 'docs/MANUAL.md'
-CALCULATOR = 'target/bin/calculator'
+CALCULATOR = 'crates/calculator/out/calculator'
 ARROW, CROSS = '→', '✗'
 BLOCK = r'^```(.*)\n((?:(?!```).*\n)*)```$'
 

@@ -2,7 +2,7 @@
 """Tests the calculator's input and output, which are outside the contracts: it answers each line as soon as its newline comes, whatever pieces the input comes
 in, and ends quietly.
 
-    python3 tests/terminal.py target/bin/calculator
+    python3 tests/terminal.py crates/calculator/out/calculator
 
 Run from the repository's root. It prints a line for each test, and stops at the first that fails.
 """

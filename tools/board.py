@@ -66,7 +66,7 @@ def depth(found, name, above=()):
 
 
 def main():
-    archive = sys.argv[1] if len(sys.argv) > 1 else 'target/staticlib/libplt.a'
+    archive = sys.argv[1] if len(sys.argv) > 1 else 'crates/plt/out/libplt.a'
     found = functions(archive)
     sizes = [line.split() for line in subprocess.run(['size', archive], capture_output=True, text=True, check=True).stdout.strip().split('\n')[1:]]
     print(f'code and tables: {sum(int(row[0]) for row in sizes)} bytes; variables: {sum(int(row[1]) + int(row[2]) for row in sizes)} bytes')

@@ -21,13 +21,13 @@ DOCUMENTS = ['README.md', 'CONTRIBUTING.md', 'examples/README.md', 'tests/cross/
 
 # What is cited and is nothing of the tree: the language, options and commands, the keys' letters, C, what is built.
 ALLOWED = {'&&', '||', '-', '&mut', '&mut u8', 'let', 'let .. else', 'requires', 'crate::module::function', '--calls', '--names', '--case', 'S', 'E', 'A', 'P', 'X',
-           'Z', 'L', 'OK', 'NO', 'N passed, 0 failed', 'memcpy', 'memset', 'libplt.a', 'target/figures', '../../target/staticlib', 'PLT_LIB', 'NAME.replies.txt', '--write', '--save FILE',
-           'must-fail/LABEL.edit', 'target/must-fail/NAME/LABEL/.log', 'crates/*/specs/'}
+           'Z', 'L', 'OK', 'NO', 'N passed, 0 failed', 'memcpy', 'memset', 'libplt.a', 'target/figures', '../../crates/plt/out', 'PLT_LIB', 'NAME.replies.txt', '--write', '--save FILE',
+           'must-fail/LABEL.edit', 'BAD EDIT', 'crates/*/specs/'}
 COMMANDS = ('rt ', './calculator ')
 # Key lines and replies. In the manual, tests/manual.py looks for them in its examples.
 KEYED = re.compile(r'(OK|NO) .*|[A-Z]( \d+)+')
 # Words of the language and of its library within a longer text.
-WORDS = {'let', 'mut', 'else', 'getD'}
+WORDS = {'let', 'mut', 'else', 'get_or'}
 NAME = r'[^\s()\[\]{}.,;:=→λ×]+'
 
 # ------------------------------------------------------------------ the tree

@@ -2,7 +2,7 @@
 """Checks that crates.txt names, for each crate, what it uses and nothing else.
 
 Run from the repository's root. A crate uses the crates that its code, definitions and proofs name: in code at the front of a path, as in year::Setup; in all three
-as Rattle·year (Rattle·year·specs is the crate's own). It also uses the crates of types that it meets without naming them, since a proof has to know how they are
+as Rattle.year.specs. It also uses the crates of types that it meets without naming them, since a proof has to know how they are
 defined: the types in the signature of a function that it names, and those of a type's fields.
 With --write, wrong lists are rewritten, in the order of the crates in crates.txt.
 """
@@ -11,7 +11,7 @@ import sys
 from glob import glob
 
 # Crates of the kit that may be listed.
-KIT = ['check', 'bytes', 'os', 'io', 'libc']
+KIT = ['check', 'bytes', 'io']
 
 
 def read(path):
@@ -24,6 +24,8 @@ class Module:
 
     def __init__(self, crate, path):
         text = read(path)
+        # `use year::{Pair, Setup};` is `use year::Pair; use year::Setup;`
+        text = re.sub(r'^((?:pub )?use [\w:]+::)\{([^{}]*)\};', lambda m: ' '.join(m[1] + name.strip() + ';' for name in m[2].split(',') if name.strip()), text, flags=re.M)
         paths = re.findall(r'(?<![\w:])(\w+(?:::\w+)+)', text)
         # name → (crate, name), for every path in the file
         self.imports = {p.split('::')[-1]: (crate if p.startswith('crate::') else p.split('::')[0], p.split('::')[-1]) for p in paths}
@@ -43,8 +45,8 @@ class Tree:
     def used(self, crate):
         """The crates that this one uses."""
         found = set()
-        for path in glob('crates/%s/**/*.rt' % crate, recursive=True) + glob('crates/%s/**/*.antt' % crate, recursive=True):
-            found.update(re.findall(r'Rattle·(\w+)(?=\.)', read(path)))
+        for path in [path for kind in ('src/**/*.rt', 'specs/**/*.antt', 'proofs/**/*.antt') for path in glob('crates/%s/%s' % (crate, kind), recursive=True)]:
+            found.update(re.findall(r'Rattle\.(\w+)\.', read(path)))
         waiting = [item for module in self.modules[crate] for item in module.imports.values()]
         seen = set()
         while waiting:
@@ -64,7 +66,8 @@ class Tree:
 def main():
     with open('crates.txt', encoding='utf-8') as f:
         lines = f.read().split('\n')
-    listed = {line.split(':')[0]: (at, line.split(':')[1].split()) for at, line in enumerate(lines) if ':' in line and not line.startswith('#')}
+    # a static library has that word after its name
+    listed = {line.split(':')[0].split()[0]: (at, line.split(':')[1].split()) for at, line in enumerate(lines) if ':' in line and not line.startswith('#')}
     order = list(listed) + KIT
     tree, wrong = Tree(listed), 0
     for crate, (at, names) in listed.items():
@@ -83,7 +86,7 @@ def main():
                 print('crates.txt:%d: %s lists %s, which it does not use' % (at + 1, crate, name))
         if sorted(names) == sorted(used) and names != used:
             print('crates.txt:%d: the list of %s is not in the order of the crates' % (at + 1, crate))
-        lines[at] = ' '.join([crate + ':'] + used)
+        lines[at] = ' '.join([lines[at].split(':')[0] + ':'] + used)
     if '--write' in sys.argv[1:]:
         with open('crates.txt', 'w', encoding='utf-8') as f:
             f.write('\n'.join(lines))

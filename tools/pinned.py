@@ -5,8 +5,8 @@
 
 changes specs/FILE.antt of a crate of definitions, one place at a time: each number by one; each comparison, connective, pollutant, constructor and letter to its
 neighbour. A definition is what a reader has to believe, so each change should break a worked case (proofs/*Cases*, Run) or at least a law. It lists each change
-that broke no case, with the laws that it broke; the last line has the counts. It works on a copy of the repository, checks the crate once for each change, and is
-not part of the gate. The list has to be judged, since some changes have no effect (a default that is never read, the end of a range between two multiples of ten).
+whose first error is in no case, with the file of that error (files are checked in the order of their names, and cases are named to come before laws); the last
+line has the counts. It works on a copy of the repository, checks the crate once for each change, and is not part of the gate. The list has to be judged, since some changes have no effect (a default that is never read, the end of a range between two multiples of ten).
 It does not try changes of another shape: a condition left out, or one engine, reading or pollutant used in place of another.
 """
 import os
@@ -79,21 +79,18 @@ def main():
     crate, files = sys.argv[1], sys.argv[2:]
     copy = tempfile.mkdtemp()
     try:
-        shutil.copytree(ROOT, copy, dirs_exist_ok=True, ignore=shutil.ignore_patterns("must-fail", ".git", "cross"))
+        shutil.copytree(ROOT, copy, dirs_exist_ok=True, ignore=shutil.ignore_patterns("must-fail", ".git", "cross", "target"))
         told = write_edits(copy, crate, files)
-        subprocess.run(["rt", "must-fail", crate], cwd=copy, stdout=subprocess.DEVNULL, stderr=subprocess.DEVNULL)
+        said = subprocess.run(["rt", "must-fail", crate], cwd=copy, stdout=subprocess.PIPE, stderr=subprocess.STDOUT, text=True).stdout
         loose = 0
         for label, what in told.items():
-            try:
-                log = open(os.path.join(copy, "target", "must-fail", crate, label, ".log")).read()
-            except OSError:
-                log = ""
-            fell = {m.group(1) for m in re.finditer(r"^\S*/(\w+/\S+?)\.antt:\d+:\d+: error: (?!.*was not admitted)", log, re.M)}
-            if any(f.startswith("specs/") for f in fell):
+            line = re.search(rf"must-fail {crate}/{label}\.edit: (.*)", said)
+            if line is None or "BAD EDIT" in line.group(1):
                 continue  # a type error or a missing name: not a definition any more
-            if not any(re.search(r"Cases|/Run$", f) for f in fell):
+            fell = re.search(r"(proofs/\S+?)\.antt:", line.group(1))
+            if fell is None or not re.search(r"Cases|/Run$", fell.group(1)):
                 loose += 1
-                print(f"{what}  [{', '.join(sorted(fell)) or 'nothing broke'}]")
+                print(f"{what}  [{fell.group(1) if fell else 'nothing broke'}]")
         print(f"{len(told)} changes, {loose} that no worked case notices")
     finally:
         shutil.rmtree(copy)

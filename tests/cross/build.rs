@@ -16,5 +16,5 @@ fn main() {
 
 fn default_folder() -> PathBuf {
     let manifest = env::var_os("CARGO_MANIFEST_DIR").expect("cargo sets the manifest's folder");
-    PathBuf::from(manifest).join("../../target/staticlib")
+    PathBuf::from(manifest).join("../../crates/plt/out")
 }

@@ -3,6 +3,6 @@
 
 use terminal::serve;
 
-fn main() {
-    serve();
+fn main(rt: HostRuntime) {
+    serve(&rt);
 }

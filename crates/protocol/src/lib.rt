@@ -9,7 +9,7 @@ pub const HELD_SIZE: usize = 65;
 pub const REPLY_SIZE: usize = 96;
 
 // What is read at a position of a line: a number with the position after it, or nothing if no number can be read there.
-#[derive(Drop)]
+#[derive(Clone, Copy)]
 pub enum Number {
     Value { value: u32, next: usize },
     Nothing,

@@ -4,6 +4,6 @@
 
 use terminal::serve;
 
-fn main() {
-    serve();
+fn main(rt: HostRuntime) {
+    serve(&rt);
 }

@@ -9,16 +9,16 @@ ghost use Rattle.protocol.specs.Console.{held_at, journal_at, journal_at_end};
 ghost use Rattle.terminal.specs.Taken.{Taken, Stopped, Fetched, Answered};
 
 use console::{end_input, key};
-use io::{count, write_all};
 use journal::JOURNAL_SIZE;
-use libc::{STDIN_FILENO, STDOUT_FILENO, read};
 use protocol::{HELD_SIZE, REPLY_SIZE};
+use std::io::Read;
 
 // The largest number of bytes in one read.
 const PIECE_SIZE: usize = 4096;
 
 // Takes a byte of the input; returns whether what it shows was written. A byte that does not end a line shows nothing.
-fn take_byte(
+fn take_byte<R: Print>(
+    rt: &R,
     journal: &mut [u8; JOURNAL_SIZE],
     line: &mut [u8; HELD_SIZE],
     held: &mut usize,
@@ -29,11 +29,12 @@ fn take_byte(
 {
     let mut out = [0u8; REPLY_SIZE];
     let n = key(journal, line, held, byte, &mut out);
-    write_all(STDOUT_FILENO, &out[..n])
+    rt.write_all(&out[..n]).is_ok()
 }
 
 // Takes a piece of the input; returns whether all that it shows was written. If nobody reads the output, the rest of the piece is left.
-fn take_bytes(
+fn take_bytes<R: Print>(
+    rt: &R,
     journal: &mut [u8; JOURNAL_SIZE],
     line: &mut [u8; HELD_SIZE],
     held: &mut usize,
@@ -43,7 +44,7 @@ fn take_bytes(
 {
     let mut i: usize = 0;
     while i < piece.len() {
-        if !take_byte(journal, line, held, piece[i]) {
+        if !take_byte(rt, journal, line, held, piece[i]) {
             return false;
         }
         i += 1;
@@ -51,9 +52,11 @@ fn take_bytes(
     true
 }
 
-// One read, of as many bytes as are available, so that a line is answered when it arrives; none at the end of the input. They are left at the front of `space`,
-// `got` of them, so that the contract can refer to them.
-fn take_piece(
+// One read, of as many bytes as are available, so that a line is answered when it arrives; none at the end of the input, or if the read fails. They are left at
+// the front of `space`, `got` of them, so that the contract can refer to them.
+fn take_piece<R: Print, I: Read>(
+    rt: &R,
+    input: &mut I,
     journal: &mut [u8; JOURNAL_SIZE],
     line: &mut [u8; HELD_SIZE],
     held: &mut usize,
@@ -62,13 +65,15 @@ fn take_piece(
 ) -> bool
     ensures { Taken result (take got.new space.new) (take held.old line.old) journal.old (take held.new line.new) journal.new }
 {
-    let n = count(read(STDIN_FILENO, space), space);
+    let n = input.read(space).unwrap_or(0);
     *got = n;
-    take_bytes(journal, line, held, &space[..n])
+    take_bytes(rt, journal, line, held, &space[..n])
 }
 
 // Reads until the input ends or the output is closed. A proved loop must terminate, and nothing says that an input ends, so it counts down the reads left.
-fn take_pieces(
+fn take_pieces<R: Print, I: Read>(
+    rt: &R,
+    input: &mut I,
     journal: &mut [u8; JOURNAL_SIZE],
     line: &mut [u8; HELD_SIZE],
     held: &mut usize,
@@ -80,7 +85,7 @@ fn take_pieces(
     ensures stopped { Stopped result got.new more.new }
 {
     loop {
-        let all = take_piece(journal, line, held, space, got);
+        let all = take_piece(rt, input, journal, line, held, space, got);
         if *got == 0 {
             return all;
         }
@@ -95,17 +100,19 @@ fn take_pieces(
 }
 
 // The end of the input: what is held is a last line without newline.
-fn finish(journal: &mut [u8; JOURNAL_SIZE], line: &[u8; HELD_SIZE], held: usize)
+fn finish<R: Print>(rt: &R, journal: &mut [u8; JOURNAL_SIZE], line: &[u8; HELD_SIZE], held: usize)
     ensures { journal.new ≡ journal_at_end (take held line.now) journal.old }
 {
     let mut out = [0u8; REPLY_SIZE];
     let n = end_input(journal, line, held, &mut out);
-    write_all(STDOUT_FILENO, &out[..n]);
+    let _ = rt.write_all(&out[..n]);
 }
 
 // Answers every line until the input ends or the output is closed, with more reads than any input needs; returns how many bytes the last read returned. The
 // caller has to provide document 01's starting state.
-fn answer_input(
+fn answer_input<R: Print, I: Read>(
+    rt: &R,
+    input: &mut I,
     journal: &mut [u8; JOURNAL_SIZE],
     line: &mut [u8; HELD_SIZE],
     held: &mut usize,
@@ -117,17 +124,20 @@ fn answer_input(
     let mut space = [0u8; PIECE_SIZE];
     let mut got: usize = 0;
     let mut more = u64::MAX;
-    take_pieces(journal, line, held, &mut space, &mut got, &mut more);
+    take_pieces(
+        rt, input, journal, line, held, &mut space, &mut got, &mut more,
+    );
     if got == 0 {
-        finish(journal, line, *held);
+        finish(rt, journal, line, *held);
         return 0;
     }
     got
 }
 
-pub fn serve() {
+pub fn serve<R: Input + Print>(rt: &R) {
+    let mut input = rt.reader();
     let mut journal = [0u8; JOURNAL_SIZE];
     let mut line = [0u8; HELD_SIZE];
     let mut held: usize = 0;
-    answer_input(&mut journal, &mut line, &mut held);
+    answer_input(rt, &mut input, &mut journal, &mut line, &mut held);
 }

@@ -59,7 +59,7 @@ pub struct Figures {
     pub mark: Mark,
 }
 
-#[derive(Drop)]
+#[derive(Clone, Copy)]
 pub struct Status {
     pub n: u32,
     pub verdict: u8,
