@@ -11,14 +11,18 @@ pub fn accepts(journal: &[u8]) -> bool {
 
 // Whether the first n bytes of a journal, which has sixteen bytes behind it, are accepted.
 fn accepts_first(journal: &[u8], n: usize) -> bool
-    requires { (length journal.now ≡ 560) × (n ≤ 560) }
+    requires size { length journal.now ≡ 560 }
+    requires within { n ≤ 560 }
 {
     accepts(&journal[..n])
 }
 
 // Changes one byte to each other value below `end`, from the next one up, wrapping round to the one below.
 fn values(journal: &mut [u8], at: usize, end: u32, first: Tally) -> Tally
-    requires { (length journal.old ≡ 560) × (at < 560) × (0 < end) × (end ≤ 256) }
+    requires size { length journal.old ≡ 560 }
+    requires inside { at < 560 }
+    requires some_value { 0 < end }
+    requires byte_value { end ≤ 256 }
 {
     let present = journal[at] as u32;
     let mut t = first;
@@ -46,7 +50,8 @@ pub fn bytes(journal: &mut [u8]) -> Tally
 
 // Every length from `from` on that is below `end`.
 fn lengths_from(journal: &[u8], from: usize, end: usize, first: Tally) -> Tally
-    requires { (length journal.now ≡ 560) × (end ≤ 561) }
+    requires size { length journal.now ≡ 560 }
+    requires within { end ≤ 561 }
 {
     let mut t = first;
     let mut n = from;
@@ -67,7 +72,8 @@ pub fn lengths(journal: &[u8]) -> Tally
 
 // Exchanges the two slots that start at `at`.
 fn exchange(journal: &mut [u8], at: usize)
-    requires { (length journal.old ≡ 560) × (at ≤ 544) }
+    requires size { length journal.old ≡ 560 }
+    requires inside { at ≤ 544 }
 {
     let end = at + 8;
     let mut i = at;

@@ -9,7 +9,7 @@ use crate::damage::{accepts, bytes, filled, lengths, slots};
 use crate::lines::{report, say};
 use crate::rewriting::is_rewritten;
 use io::read_full;
-use libc::STDIN_FILENO;
+use test_lines::INPUT;
 
 mod damage;
 mod lines;
@@ -37,10 +37,10 @@ fn try_damaged(name: &[u8], journal: &mut [u8])
 fn try_next(name: &mut [u8], journal: &mut [u8])
     requires { length journal.old ≡ 560 }
 {
-    if read_full(STDIN_FILENO, name) < name.len() {
+    if read_full(INPUT, name) < name.len() {
         return;
     }
-    if read_full(STDIN_FILENO, &mut journal[..544]) < 544 {
+    if read_full(INPUT, &mut journal[..544]) < 544 {
         return;
     }
     try_whole(name, &journal[..544]);

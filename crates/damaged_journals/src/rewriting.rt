@@ -9,7 +9,8 @@ use setup_encoder::write_setup;
 
 // Appends the event at the front of a part, if there is room.
 fn append_first(part: &[u8], out: &mut [u8])
-    requires { (8 ≤ length part.now) × (length out.old ≡ 544) }
+    requires some_slot { 8 ≤ length part.now }
+    requires size { length out.old ≡ 544 }
 {
     if 64 <= out[24] {
         return;
@@ -18,7 +19,9 @@ fn append_first(part: &[u8], out: &mut [u8])
 }
 
 fn rewrite(journal: &[u8], count: u8, out: &mut [u8])
-    requires { (length journal.now ≡ 544) × (count ≤ 64) × (length out.old ≡ 544) }
+    requires size { length journal.now ≡ 544 }
+    requires few { count ≤ 64 }
+    requires out_size { length out.old ≡ 544 }
 {
     write_setup(out, setup_in(journal));
     let mut j: u8 = 0;

@@ -32,7 +32,7 @@ pub fn set_up(journal: &mut [u8], s: Setup) -> Answer
         return Answer::Refused(refused);
     }
     write_setup(journal, s);
-    Answer::Accepted(status_of(start(s)))
+    Answer::Accepted(status_of(&start(s)))
 }
 
 // Carries out the decision on an entry: an added event is appended to the journal, and the answer is the status of the year with it.
@@ -44,7 +44,7 @@ fn enter(journal: &mut [u8], p: Progress, decision: Decision) -> Answer
     match decision {
         Decision::Add(e) => {
             append(journal, e);
-            Answer::Accepted(status_of(after(p, e)))
+            Answer::Accepted(status_of(&after(p, e)))
         }
         Decision::Refuse(number) => Answer::Refused(number),
     }

@@ -27,7 +27,7 @@ pub fn read_status(journal: &[u8]) -> Answer
     if number != 0 {
         return Answer::Refused(number);
     }
-    Answer::Accepted(status_of(scanned.progress))
+    Answer::Accepted(status_of(&scanned.progress))
 }
 
 // Marks, at the front of the output.

@@ -9,9 +9,9 @@ use progress::Progress;
 use year::Status;
 
 // The calculator's status, at resolution 1,024.
-pub fn status_of(p: Progress) -> Status
-    requires { Consistent p }
-    ensures { result ≡ status 1024 (progress_of p) }
+pub fn status_of(p: &Progress) -> Status
+    requires { Consistent p.now }
+    ensures { result ≡ status 1024 (progress_of p.now) }
 {
     let hcnox = p.hcnox;
     let co = p.co;

@@ -56,9 +56,9 @@ pub fn is_short(current: u32, period: u32) -> bool
 }
 
 // The verdict from the figures of both pollutants at one resolution.
-pub fn verdict_by(p: Progress, hcnox: Running, co: Running) -> u8
-    requires { Judged p hcnox co }
-    ensures { (k : ℕ) → Figured k p.engines hcnox co → result ≡ verdict k (progress_of p) }
+pub fn verdict_by(p: &Progress, hcnox: Running, co: Running) -> u8
+    requires { Judged p.now hcnox co }
+    ensures { (k : ℕ) → Figured k p.now.engines hcnox co → result ≡ verdict k (progress_of p.now) }
 {
     let n = p.engines.count as u64;
     let failed = either(hcnox.failed, co.failed);
@@ -70,9 +70,9 @@ pub fn verdict_by(p: Progress, hcnox: Running, co: Running) -> u8
 }
 
 // The calculator's verdict, at resolution 1,024.
-pub fn verdict(p: Progress) -> u8
-    requires { Consistent p }
-    ensures { result ≡ verdict 1024 (progress_of p) }
+pub fn verdict(p: &Progress) -> u8
+    requires { Consistent p.now }
+    ensures { result ≡ verdict 1024 (progress_of p.now) }
 {
     let hcnox = p.hcnox;
     let co = p.co;

@@ -8,7 +8,8 @@ use test_lines::lines::{end, next};
 
 // 1 to 3, whatever the number is.
 fn count_of(n: u32) -> usize
-    ensures { (1 ≤ result) × (result ≤ 3) }
+    ensures at_least { 1 ≤ result }
+    ensures at_most { result ≤ 3 }
 {
     if n == 1 {
         return 1;

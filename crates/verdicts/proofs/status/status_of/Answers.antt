@@ -6,11 +6,11 @@ use Rattle.progress.proofs.Carried.{counted, count-le}
 use Rattle.verdicts.proofs.status.status_of.Goals as goal
 
 pub overflow_cast-result : goal.overflow_cast-result
-overflow_cast-result c = omega (arith, count-le c.args.p c.requires)
+overflow_cast-result c = omega (arith, count-le c.args.p.now c.requires)
 
 pub returns : goal.returns
 returns c =
-    let p = c.args.p in
+    let p = c.args.p.now in
     rw (
       c.verdict.ensures,
       c.figures_of.ensures 1024 (history Hcnox (tested p.engines)) c.requires.figures.hcnox,

@@ -9,7 +9,7 @@ use Rattle.verdicts.proofs.verdict.verdict_by.Goals as goal
 pub returns : goal.returns
 unfolding verdict
 returns c =
-    let p = c.args.p in
+    let p = c.args.p.now in
     let k = c.requires.consistent in
     λ m f.
     rw (
