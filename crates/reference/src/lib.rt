@@ -11,7 +11,7 @@ pub enum Answer {
 }
 
 // A change: an entry without readings. `Delete` ("strike" in document 02, W-201) removes the newest engine.
-#[derive(Drop)]
+#[derive(Clone, Copy)]
 pub enum Change {
     Amend(Pair),
     BeginPeriod,
