@@ -76,7 +76,9 @@ fn answer_of(letter: u8, numbers: &[u32], journal: &mut [u8]) -> Answer
 }
 
 fn call(letter: u8, numbers: &[u32], journal: &mut [u8], lent: usize)
-    requires { (length numbers.now ≡ 300) × (length journal.old ≡ 560) × (lent ≤ 560) }
+    requires numbers_size { length numbers.now ≡ 300 }
+    requires size { length journal.old ≡ 560 }
+    requires within { lent ≤ 560 }
 {
     let a = answer_of(letter, numbers, &mut journal[..lent]);
     answer(a);
@@ -86,7 +88,8 @@ fn call(letter: u8, numbers: &[u32], journal: &mut [u8], lent: usize)
 
 // The first form: the refusal, how many bytes were written, and all bytes of the array whose front was lent.
 fn written(journal: &[u8], out: &mut [u8], size: usize)
-    requires { (length out.old ≡ 100) × (size ≤ 100) }
+    requires out_size { length out.old ≡ 100 }
+    requires within { size ≤ 100 }
 {
     let w = write_marks(journal, &mut out[..size]);
     number(w.refusal as u64);
@@ -103,14 +106,17 @@ fn handed_back(journal: &[u8], out: &mut [u8]) {
 
 // The second form: the refusal, the part handed back, and a digest of the array.
 fn handed(journal: &[u8], out: &mut [u8], size: usize)
-    requires { (length out.old ≡ 100) × (size ≤ 100) }
+    requires out_size { length out.old ≡ 100 }
+    requires within { size ≤ 100 }
 {
     handed_back(journal, &mut out[..size]);
     next(digest(out));
 }
 
 fn strip(journal: &[u8], lent: usize, size: usize)
-    requires { (length journal.now ≡ 560) × (lent ≤ 560) × (size ≤ 100) }
+    requires journal_size { length journal.now ≡ 560 }
+    requires within { lent ≤ 560 }
+    requires out_within { size ≤ 100 }
 {
     let mut first = [46u8; 100];
     written(&journal[..lent], &mut first, size);
@@ -129,7 +135,9 @@ fn change(journal: &mut [u8], place: u32, value: u32) {
 
 // Carries out a line, given as its letter and numbers; returns how many bytes the calls after it are lent.
 pub fn obey(letter: u8, numbers: &[u32], journal: &mut [u8], lent: usize) -> usize
-    requires { (length numbers.now ≡ 300) × (length journal.old ≡ 560) × (lent ≤ 560) }
+    requires numbers_size { length numbers.now ≡ 300 }
+    requires size { length journal.old ≡ 560 }
+    requires within { lent ≤ 560 }
     ensures { result ≤ 560 }
 {
     if letter == b'B' {

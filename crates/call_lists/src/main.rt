@@ -14,7 +14,10 @@ mod lines;
 
 // Carries out a line that is not a title, by its letter and numbers.
 fn obey_line(line: &[u8], journal: &mut [u8], lent: usize) -> usize
-    requires { (0 < length line.now) × (length line.now ≤ 256) × (length journal.old ≡ 560) × (lent ≤ 560) }
+    requires some_line { 0 < length line.now }
+    requires line_size { length line.now ≤ 256 }
+    requires size { length journal.old ≡ 560 }
+    requires within { lent ≤ 560 }
     ensures { result ≤ 560 }
 {
     let mut numbers = [0u32; 300];
@@ -24,7 +27,9 @@ fn obey_line(line: &[u8], journal: &mut [u8], lent: usize) -> usize
 
 // Handles the next line of the input; returns how many bytes of the journal the calls after it are lent.
 fn next_line(line: &mut [u8], journal: &mut [u8], lent: usize) -> usize
-    requires { (length line.old ≡ 256) × (length journal.old ≡ 560) × (lent ≤ 560) }
+    requires line_size { length line.old ≡ 256 }
+    requires size { length journal.old ≡ 560 }
+    requires within { lent ≤ 560 }
     ensures { result ≤ 560 }
 {
     let n = read_line(line);

@@ -46,7 +46,7 @@ fn enter(p: Progress, e: Event) -> Progress
     requires { Consistent p }
     ensures { Consistent result }
 {
-    if is_admissible(p, e) {
+    if is_admissible(&p, e) {
         return after(p, e);
     }
     p
@@ -62,10 +62,10 @@ fn at_most(n: u64, most: u64) -> u64
 }
 
 // Prints how many events were entered, the status at 1,024, and the figures of both pollutants recomputed at `resolution`, or at 8,192 if that is less.
-fn print_year(p: Progress, resolution: u32)
-    requires { Consistent p }
+fn print_year(p: &Progress, resolution: u32)
+    requires { Consistent p.now }
 {
-    let again = rework(p.engines, at_most(resolution as u64, 8192));
+    let again = rework(&p.engines, at_most(resolution as u64, 8192));
     let hcnox = again.hcnox;
     let co = again.co;
     number(p.stored as u64);
@@ -113,7 +113,8 @@ fn is_event(letter: u8) -> bool {
 
 // The year after a line, given as its letter and numbers.
 pub fn obey(p: Progress, letter: u8, numbers: &[u32]) -> Progress
-    requires { Consistent p × (length numbers.now ≡ 300) }
+    requires consistent { Consistent p }
+    requires size { length numbers.now ≡ 300 }
     ensures { Consistent result }
 {
     if letter == b'S' {
@@ -123,7 +124,7 @@ pub fn obey(p: Progress, letter: u8, numbers: &[u32]) -> Progress
         return enter(p, event_of(letter, numbers));
     }
     if letter == b'F' {
-        print_year(p, numbers[0]);
+        print_year(&p, numbers[0]);
         return p;
     }
     print_rule(letter, numbers);
