@@ -14,7 +14,7 @@ use Rattle.year.specs.declared.Pair.{Pair}
 use Rattle.year.specs.declared.Event.{Event}
 use Rattle.year.specs.declared.Event.TheVariants.{Engine, Deletion}
 use Rattle.year.specs.Setup.{setup_in_range}
-use Rattle.year.specs.Replay.{start, after}
+use Rattle.year.specs.Replay.{after}
 use Rattle.year.specs.Admissible.{admissible}
 use Rattle.year.specs.Model.{NoSetup, Year}
 use Rattle.journal.specs.Encode.{slot_place}
@@ -65,17 +65,9 @@ module _ (journal : List ℕ) (n : ℕ) where
       let v = subst (λ k. Entered journal k p) same u in
       rw (all-entered (and-true v.setup v.enters)) (record { accepted = refl; year = v.stands; consistent = λ _. v.consistent })
 
--- the setup in the header, and whether the code found it in range
-module _ (journal : List ℕ) (s : Setup) (r : Bool) (e : s ≡ setup_in journal) (t : r ≡ setup_in_range s) where
-  setup-is : setup_in_range (setup_in journal) ≡ r
-  setup-is = sym (ap setup_in_range e) ∙ sym t
-
-  -- out of range: nothing is entered
-  pub no-setup : (n : ℕ) → r ≡ false → entered journal n ≡ NoSetup
-  no-setup n h = none-entered journal n (rw (setup-is, h))
-
-  pub started : (p : State) → r ≡ true → progress_of p ≡ start s → (setup_in_range s ≡ true → Consistent p) → Entered journal 0 p
-  started p h g c = record { setup = setup-is ∙ h; enters = refl; stands = g ∙ ap start e; consistent = c (sym t ∙ h) }
+-- the code found the setup in the header to be out of range: nothing is entered
+pub no-setup : (journal : List ℕ) (s : Setup) (r : Bool) → s ≡ setup_in journal → r ≡ setup_in_range s → (n : ℕ) → r ≡ false → entered journal n ≡ NoSetup
+no-setup journal s r e t n h = none-entered journal n (rw (sym (ap setup_in_range e) ∙ sym t ∙ h))
 
 -- an event that passed both tests of its slot is admissible; for an engine there is room, and for a deletion there is an engine to remove
 passed : (p : State) (slot : Bool) {fits : Bool} {e f : Event} → fits ≡ admissible (progress_of p) e → true ≡ (slot && fits) → e ≡ f → admissible (progress_of p) f ≡ true

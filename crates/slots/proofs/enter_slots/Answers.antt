@@ -109,7 +109,7 @@ pub overflow_sub-p : goal.overflow_sub-p
 overflow_sub-p c = (can c.is_slot.result c.loop-j.invariant.entered.consistent c.is_admissible.ensures c.if-not-both.ensures c.in-Deletion.is).place
 
 pub overflow_sub-p-in-Deletion : goal.overflow_sub-p-in-Deletion
-overflow_sub-p-in-Deletion c = (can c.is_slot.result c.loop-j.invariant.entered.consistent c.is_admissible.ensures c.if-not-both.ensures c.in-Deletion.is).current
+overflow_sub-p-in-Deletion c = omega (arith, (can c.is_slot.result c.loop-j.invariant.entered.consistent c.is_admissible.ensures c.if-not-both.ensures c.in-Deletion.is).current)
 
 pub rework-worked-requires : goal.rework-worked-requires
 rework-worked-requires c = (can c.is_slot.result c.loop-j.invariant.entered.consistent c.is_admissible.ensures c.if-not-both.ensures c.in-Deletion.is).rest _ (tested-fewer c.loop-j.p.engines)
