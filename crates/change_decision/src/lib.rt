@@ -32,9 +32,9 @@ fn is_unfit(c: Change) -> bool
 }
 
 // Refusals 17 and 15, for a change on an accepted year.
-fn change_refusal(p: Progress, c: Change) -> u8
-    requires { Consistent p }
-    ensures { result ≡ change_refusal c (progress_of p) }
+fn change_refusal(p: &Progress, c: Change) -> u8
+    requires { Consistent p.now }
+    ensures { result ≡ change_refusal c (progress_of p.now) }
 {
     match c {
         Change::Amend(_) => 0,
@@ -57,13 +57,13 @@ fn change_event(c: Change) -> Event
 }
 
 // The decision on a change: first the rows that can apply to every entry, then its own.
-pub fn change(journal: &[u8], scanned: Scanned, c: Change) -> Decision
-    requires { ScannedAs scanned (read_journal journal.now) }
+pub fn change(journal: &[u8], scanned: &Scanned, c: Change) -> Decision
+    requires { ScannedAs scanned.now (read_journal journal.now) }
     ensures { result ≡ decision_on (EnterChange c) journal.now }
 {
     let refusal = entry_refusal(journal, is_unfit(c), scanned);
     if refusal != 0 {
         return Decision::Refuse(refusal);
     }
-    decide(change_refusal(scanned.progress, c), change_event(c))
+    decide(change_refusal(&scanned.progress, c), change_event(c))
 }

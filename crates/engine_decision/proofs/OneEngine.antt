@@ -1,24 +1,19 @@
 -- An engine's own rows: those tested before its results are computed, and those after; and its whole table, made of the shared rows and these.
 use mathlib.Core.Path.{◌≡◌, sym, ap, ◌∙◌}
-use mathlib.Core.Bool.{false, not, ◌&&◌, and-eq-true_iff}
+use mathlib.Core.Bool.{false, not}
 use mathlib.Core.List.{List}
-use Prim.Native.Nat.{ℕ, ◌≤◌}
+use Prim.Native.Nat.{ℕ}
 use native.Mathlib.Omega.{arith}
-use lib.Dec.{eqb, leb}
 use lib.ListN.{length}
-use borrow.Author.Tests.{eqb-true, leb-true}
 use Rattle.conditions.specs.Rows.{first, Numbered}
-use Rattle.conditions.proofs.Rows.{first-none, none-applies}
-use Rattle.conditions.proofs.Tests.{not-false}
-use Rattle.rounding.specs.Result.{count_in_range, result_in_range}
 use Rattle.year.specs.declared.Event.{Event}
 use Rattle.year.specs.declared.Event.TheVariants.{Engine}
 use Rattle.year.specs.Replay.{Progress, is_tested}
 use Rattle.year.specs.Admissible.{engines_full, results_in_range}
 use Rattle.progress.specs.State.{progress_of}
 use Rattle.journal.specs.Read.{read_journal}
-use Rattle.reference.specs.Call.{Readings, EnterEngine, results_of, event_of}
-use Rattle.reference.specs.Refusals.{refusals, counts_fit}
+use Rattle.reference.specs.Call.{Readings, EnterEngine, results_of}
+use Rattle.reference.specs.Refusals.{refusals}
 use Rattle.slots.specs.declared.Scanned.{Scanned}
 use Rattle.slots.specs.Scanned.{ScannedAs}
 use Rattle.refusals.specs.declared.Decision.TheVariants.{Add, Refuse}
@@ -32,31 +27,6 @@ use Rattle.refusals.proofs.Decided.{refused-by, passed_on, own-decides}
 module _ (number : ℕ) (readings : Readings) (p : Progress) where
   pub asked-numbered : Numbered (asked_rows number readings p)
   asked-numbered = omega arith
-
-  -- if one of 10, 11 and 12 applies, the engine is refused by it
-  pub asked-refused : (r : ℕ) → r ≡ first (asked_rows number readings p) 0 → (r ≡ 0 → ⊥) → Refuse r ≡ engine_decision number readings p
-  asked-refused r =
-      let results = results_of p.setup readings in
-      refused-by (asked_rows number readings p) (first (worked_rows results.hcnox results.co (length p.tested)) 0) (event_of p (EnterEngine number readings)) r
-
-  -- if none of them applies, the counts of its readings fit
-  pub asked-counts : first (asked_rows number readings p) 0 ≡ 0
-      → (length readings.hcnox ≡ length readings.co) × (1 ≤ length readings.hcnox) × (length readings.hcnox ≤ 3)
-  asked-counts h =
-      let fit = not-false (counts_fit readings) (none-applies (asked_rows number readings p) 11 (first-none (asked_rows number readings p) asked-numbered h)) in
-      let parts = (and-eq-true_iff (eqb (length readings.hcnox) (length readings.co)) (count_in_range (length readings.hcnox))).0 fit in
-      let range = (and-eq-true_iff (leb 1 (length readings.hcnox)) (leb (length readings.hcnox) 3)).0 parts.1 in
-      (eqb-true (length readings.hcnox) (length readings.co) parts.0, leb-true 1 (length readings.hcnox) range.0, leb-true (length readings.hcnox) 3 range.1)
-
-module _ (hcnox co count : ℕ) where
-  pub worked-numbered : Numbered (worked_rows hcnox co count)
-  worked-numbered = omega arith
-
-  pub worked-results : first (worked_rows hcnox co count) 0 ≡ 0 → (hcnox ≤ 20000) × (co ≤ 20000)
-  worked-results h =
-      let fit = not-false (result_in_range hcnox && result_in_range co) (first-none (worked_rows hcnox co count) worked-numbered h).0 in
-      let parts = (and-eq-true_iff (result_in_range hcnox) (result_in_range co)).0 fit in
-      (leb-true hcnox 20000 parts.0, leb-true co 20000 parts.1)
 
 -- on a year, once the engine's results are computed
 module _ (number : ℕ) (readings : Readings) (p : Progress) (asked : first (asked_rows number readings p) 0 ≡ 0) (hcnox co count : ℕ)
@@ -84,6 +54,6 @@ module _ (journal : List ℕ) (scanned : Scanned) (t : ScannedAs scanned (read_j
         ← year (λ x. is_tested number x.tested),
         ← year (λ x. not (results_in_range (results_of x.setup readings))),
         ← year engines_full,
-        t.year,
+        ap (λ (x : Progress). x.setup) t.year,
       )
       (own-decides (EnterEngine number readings) journal none)

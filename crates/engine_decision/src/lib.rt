@@ -23,11 +23,11 @@ use slots::Scanned;
 use year::{Event, MOST_ENGINES, Pair};
 
 // Refusals 10, 11 and 12, which are tested before the results are computed.
-fn asked_refusal(p: Progress, number: u32, hcnox: &[u32], co: &[u32]) -> u8
-    requires { Consistent p }
-    ensures { result ≡ first (asked_rows number (record { hcnox = hcnox.entry.now; co = co.now }) (progress_of p)) 0 }
+fn asked_refusal(p: &Progress, number: u32, hcnox: &[u32], co: &[u32]) -> u8
+    requires { Consistent p.now }
+    ensures { result ≡ first (asked_rows number (record { hcnox = hcnox.now; co = co.now }) (progress_of p.now)) 0 }
 {
-    let engines = p.engines;
+    let engines = &p.engines;
     if either(!number_in_range(number), is_tested(engines, number)) {
         return 10;
     }
@@ -49,9 +49,9 @@ fn worked_refusal(hcnox: u64, co: u64, count: usize) -> u8
 }
 
 // The decision on a year to which none of the rows for every entry applies.
-fn engine_decision(p: Progress, number: u32, hcnox: &[u32], co: &[u32]) -> Decision
-    requires { Consistent p }
-    ensures { result ≡ engine_decision number (record { hcnox = hcnox.entry.now; co = co.now }) (progress_of p) }
+fn engine_decision(p: &Progress, number: u32, hcnox: &[u32], co: &[u32]) -> Decision
+    requires { Consistent p.now }
+    ensures { result ≡ engine_decision number (record { hcnox = hcnox.now; co = co.now }) (progress_of p.now) }
 {
     let asked = asked_refusal(p, number, hcnox, co);
     if asked != 0 {
@@ -74,13 +74,13 @@ fn engine_decision(p: Progress, number: u32, hcnox: &[u32], co: &[u32]) -> Decis
     })
 }
 
-pub fn engine(journal: &[u8], scanned: Scanned, number: u32, hcnox: &[u32], co: &[u32]) -> Decision
-    requires { ScannedAs scanned (read_journal journal.now) }
+pub fn engine(journal: &[u8], scanned: &Scanned, number: u32, hcnox: &[u32], co: &[u32]) -> Decision
+    requires { ScannedAs scanned.now (read_journal journal.now) }
     ensures { result ≡ decision_on (engine_entry number hcnox.now co.now) journal.now }
 {
     let refusal = entry_refusal(journal, false, scanned);
     if refusal != 0 {
         return Decision::Refuse(refusal);
     }
-    engine_decision(scanned.progress, number, hcnox, co)
+    engine_decision(&scanned.progress, number, hcnox, co)
 }

@@ -7,7 +7,7 @@ use results::{count_in_range, reading_in_range};
 
 // Equally many readings for each pollutant, 1 to 3.
 pub fn counts_fit(hcnox: &[u32], co: &[u32]) -> bool
-    ensures { result ≡ counts_fit (record { hcnox = hcnox.entry.now; co = co.now }) }
+    ensures { result ≡ counts_fit (record { hcnox = hcnox.now; co = co.now }) }
 {
     let n = hcnox.len();
     both(n == co.len(), count_in_range(n))
@@ -28,7 +28,7 @@ fn all_in_range(readings: &[u32]) -> bool
 }
 
 pub fn readings_fit(hcnox: &[u32], co: &[u32]) -> bool
-    ensures { result ≡ readings_fit (record { hcnox = hcnox.entry.now; co = co.now }) }
+    ensures { result ≡ readings_fit (record { hcnox = hcnox.now; co = co.now }) }
 {
     both(all_in_range(hcnox), all_in_range(co))
 }

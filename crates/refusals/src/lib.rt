@@ -36,6 +36,7 @@ pub fn decide(refusal: u8, e: Event) -> Decision
 }
 
 // Refusals 3, 4, 5 and 6. Setup does not test what the buffer holds.
+#[tactic(auto, unfolding(reference::specs::Refusals::refusal, reference::specs::Refusals::refusals))]
 pub fn setup_refusal(journal: &[u8], s: Setup) -> u8
     ensures { result ≡ refusal_on (SetUp s) journal.now }
 {
@@ -47,8 +48,8 @@ pub fn setup_refusal(journal: &[u8], s: Setup) -> u8
 }
 
 // Refusals 3 and 7.
-pub fn status_refusal(journal: &[u8], scanned: Scanned) -> u8
-    requires { ScannedAs scanned (read_journal journal.now) }
+pub fn status_refusal(journal: &[u8], scanned: &Scanned) -> u8
+    requires { ScannedAs scanned.now (read_journal journal.now) }
     ensures { result ≡ refusal_on (Ask ReadStatus) journal.now }
 {
     let size = journal.len() != JOURNAL_SIZE;
@@ -57,8 +58,8 @@ pub fn status_refusal(journal: &[u8], scanned: Scanned) -> u8
 }
 
 // Refusals 3, 7 and 16, for an output of this size.
-pub fn marks_refusal(journal: &[u8], scanned: Scanned, size: usize) -> u8
-    requires { ScannedAs scanned (read_journal journal.now) }
+pub fn marks_refusal(journal: &[u8], scanned: &Scanned, size: usize) -> u8
+    requires { ScannedAs scanned.now (read_journal journal.now) }
     ensures { result ≡ refusal_on (Ask (Write Marks size)) journal.now }
 {
     let unread = status_refusal(journal, scanned);
@@ -70,8 +71,8 @@ pub fn marks_refusal(journal: &[u8], scanned: Scanned, size: usize) -> u8
 }
 
 // Refusals 3, 7, 8 and 9, which can apply to every entry, and in its place in the order 5, which applies if an amendment's standards are unfit.
-pub fn entry_refusal(journal: &[u8], unfit: bool, scanned: Scanned) -> u8
-    requires { ScannedAs scanned (read_journal journal.now) }
+pub fn entry_refusal(journal: &[u8], unfit: bool, scanned: &Scanned) -> u8
+    requires { ScannedAs scanned.now (read_journal journal.now) }
     ensures { result ≡ first (entry_rows unfit journal.now) 0 }
 {
     if journal.len() != JOURNAL_SIZE {
@@ -83,6 +84,6 @@ pub fn entry_refusal(journal: &[u8], unfit: bool, scanned: Scanned) -> u8
     if !scanned.accepted {
         return 7;
     }
-    let p = scanned.progress;
+    let p = &scanned.progress;
     row(closed(p), 8, row(MOST_EVENTS <= p.stored, 9, 0))
 }

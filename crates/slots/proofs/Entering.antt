@@ -10,16 +10,20 @@ use lib.ListN.{length, take, drop}
 use Rattle.buffers.proofs.Lists.{part-from}
 use Rattle.conditions.proofs.Tests.{and-true}
 use Rattle.year.specs.declared.Setup.{Setup}
+use Rattle.year.specs.declared.Pair.{Pair}
 use Rattle.year.specs.declared.Event.{Event}
+use Rattle.year.specs.declared.Event.TheVariants.{Engine, Deletion}
 use Rattle.year.specs.Setup.{setup_in_range}
-use Rattle.year.specs.Replay.{start, after}
+use Rattle.year.specs.Replay.{after}
 use Rattle.year.specs.Admissible.{admissible}
 use Rattle.year.specs.Model.{NoSetup, Year}
 use Rattle.journal.specs.Encode.{slot_place}
 use Rattle.journal.specs.Read.{setup_in, event_in, events_in}
 use Rattle.journal.specs.Acceptance.{is_slot, enters_at, enters_up_to}
+use Rattle.engines.proofs.Arrays.{narrow}
 use Rattle.progress.specs.declared.Progress.{Progress as State}
 use Rattle.progress.specs.State.{progress_of, Consistent}
+use Rattle.progress.proofs.Carried.{Room, room, Deletable, deletable}
 use Rattle.progress.proofs.Steps.{Represents}
 use Rattle.slots.specs.Scanned.{ScannedAs, Entered, entered}
 
@@ -61,43 +65,51 @@ module _ (journal : List ℕ) (n : ℕ) where
       let v = subst (λ k. Entered journal k p) same u in
       rw (all-entered (and-true v.setup v.enters)) (record { accepted = refl; year = v.stands; consistent = λ _. v.consistent })
 
--- the setup in the header, and whether the code found it in range
-module _ (journal : List ℕ) (s : Setup) (r : Bool) (e : s ≡ setup_in journal) (t : r ≡ setup_in_range s) where
-  setup-is : setup_in_range (setup_in journal) ≡ r
-  setup-is = sym (ap setup_in_range e) ∙ sym t
+-- the code found the setup in the header to be out of range: nothing is entered
+pub no-setup : (journal : List ℕ) (s : Setup) (r : Bool) → s ≡ setup_in journal → r ≡ setup_in_range s → (n : ℕ) → r ≡ false → entered journal n ≡ NoSetup
+no-setup journal s r e t n h = none-entered journal n (rw (sym (ap setup_in_range e) ∙ sym t ∙ h))
 
-  -- out of range: nothing is entered
-  pub no-setup : (n : ℕ) → r ≡ false → entered journal n ≡ NoSetup
-  no-setup n h = none-entered journal n (rw (setup-is, h))
+-- an event that passed both tests of its slot is admissible; for an engine there is room, and for a deletion there is an engine to remove
+passed : (p : State) (slot : Bool) {fits : Bool} {e f : Event} → fits ≡ admissible (progress_of p) e → true ≡ (slot && fits) → e ≡ f → admissible (progress_of p) f ≡ true
+passed p slot {fits} hf t is = rw (← is) (sym hf ∙ ((and-eq-true_iff slot fits).0 (sym t)).1)
 
-  pub started : (p : State) → r ≡ true → progress_of p ≡ start s → (setup_in_range s ≡ true → Consistent p) → Entered journal 0 p
-  started p h g c = record { setup = setup-is ∙ h; enters = refl; stands = g ∙ ap start e; consistent = c (sym t ∙ h) }
+module _ (slot : Bool) {fits : Bool} {p : State} {e : Event} (w : Consistent p) (hf : fits ≡ admissible (progress_of p) e) (t : true ≡ (slot && fits)) where
+  pub fit : {number readings : ℕ} {results : Pair} → e ≡ Engine number readings results → Room p number results
+  fit {number} {readings} {results} is = room p w number readings results (passed p slot hf t is)
 
--- ---- one slot
+  pub small : {number readings : ℕ} {results : Pair} → e ≡ Engine number readings results
+      → (p.engines.count < 40) × (number ≤ 65535) × (p.period ≤ 4) × (results.hcnox ≤ 20000) × (results.co ≤ 20000) × (p.standards.hcnox ≤ 20000)
+      × (p.standards.co ≤ 20000)
+  small is = narrow (fit is).engine
 
-module _ (journal : List ℕ) (j : ℕ) (p : State) (u : Entered journal j p) where
-  abbrev part : List ℕ
-  part = take (length journal - slot_place j) (drop (slot_place j) journal)
+  pub can : e ≡ Deletion → Deletable p
+  can is = deletable p w (passed p slot hf t is)
 
-  -- what the code finds in the slot: its event, and whether it enters
-  pub found : (e : Event) (slot fits both : Bool) → e ≡ event_in part → slot ≡ is_slot part → fits ≡ admissible (progress_of p) e → both ≡ (slot && fits)
-      → (e ≡ event_in (drop (slot_place j) journal)) × (both ≡ enters_at journal j)
+-- ---- one slot, in which the code found an event e, and tested that it is in the one form and that its event is admissible
+
+module _ {journal : List ℕ} {j : ℕ} {p : State} (u : Entered journal j p) {e : Event} {slot fits : Bool}
+    (he : e ≡ event_in (take (length journal - slot_place j) (drop (slot_place j) journal)))
+    (hs : slot ≡ is_slot (take (length journal - slot_place j) (drop (slot_place j) journal))) (hf : fits ≡ admissible (progress_of p) e) where
+  event-is : e ≡ event_in (drop (slot_place j) journal)
+  event-is = let rest = part-from journal (slot_place j) in rw (← rest) he
+
+  enters-is : (slot && fits) ≡ enters_at journal j
   unfolding enters_at
-  found e slot fits both he hs hf hb = let rest = part-from journal (slot_place j) in (rw (← rest) he, rw (hb, hs, hf, he, rest, u.stands))
+  enters-is = let rest = part-from journal (slot_place j) in rw (hs, hf, he, rest, u.stands)
 
-  -- an event that enters is admissible, and a state that represents the year with it is the next state
-  module _ (e : Event) (he : e ≡ event_in (drop (slot_place j) journal)) (t : enters_at journal j ≡ true) where
-    pub admitted : admissible (progress_of p) e ≡ true
-    unfolding enters_at
-    admitted = rw (he, u.stands) ((and-eq-true_iff (is_slot (drop (slot_place j) journal)) (admissible _ _)).0 t).1
+  -- a test failed: the buffer holds no year
+  pub refused : (n : ℕ) → j < n → false ≡ (slot && fits) → entered journal n ≡ NoSetup
+  refused n l t = stopped journal n j l (sym (t ∙ enters-is))
 
-    pub entry : (q : State) → (admissible (progress_of p) e ≡ true → Represents q (after e (progress_of p))) → Entered journal (j + 1) q
-    entry q law =
-        let next = law admitted in
-        rw (add-one j)
-        (record {
-          setup = u.setup;
-          enters = (and-eq-true_iff (enters_up_to journal j) (enters_at journal j)).1 (u.enters, t);
-          stands = next.0 ∙ rw (he, u.stands);
-          consistent = next.1;
-        })
+  -- both were passed: a state that represents the year with the event is the next state
+  pub next : {f : Event} → true ≡ (slot && fits) → e ≡ f → (q : State) → (admissible (progress_of p) f ≡ true → Represents q (after f (progress_of p)))
+      → Entered journal (j + 1) q
+  next {f} t is q law =
+      let represents = law (passed p slot hf t is) in
+      rw (add-one j)
+      (record {
+        setup = u.setup;
+        enters = (and-eq-true_iff (enters_up_to journal j) (enters_at journal j)).1 (u.enters, sym (t ∙ enters-is));
+        stands = represents.0 ∙ ap (after f) u.stands ∙ rw (← is, event-is);
+        consistent = represents.1;
+      })

@@ -44,21 +44,17 @@ pub fn no_journal() -> Scanned
 }
 
 // Enters the events of the slots one after another, starting from the state of a setup alone. Each step is `after` of the crate progress, its arms in the same
-// order, but the state is changed in place and its engines are held apart: passing the whole state by value at every event costs more than the work. A change
-// to one must be made to both.
+// order, but the state is changed in place: passing the whole state by value at every event costs more than the work. A change to one must be made to both.
 pub fn enter_slots(journal: &[u8], count: usize, first: Progress) -> Scanned
     requires { (length journal.now ≡ 544) × (count ≤ 64) × Entered journal.now 0 first }
     ensures { ScannedAs result (entered journal.now count) }
 {
     let mut p = first;
-    let mut engines = first.engines;
     let mut j = 0;
     while j < count {
         let at = 32 + 8 * j;
         let e = event_at(&journal[at..]);
-        let mut whole = p;
-        whole.engines = engines;
-        if !both(is_slot(&journal[at..]), is_admissible(whole, e)) {
+        if !both(is_slot(&journal[at..]), is_admissible(&p, e)) {
             return no_journal();
         }
         j += 1;
@@ -69,14 +65,14 @@ pub fn enter_slots(journal: &[u8], count: usize, first: Progress) -> Scanned
                 results,
                 ..
             } => {
-                let n = engines.count;
-                engines.count = n + 1;
-                engines.numbers[n] = number as u16;
-                engines.periods[n] = p.period as u8;
-                engines.hcnox_results[n] = results.hcnox as u16;
-                engines.hcnox_standards[n] = p.standards.hcnox as u16;
-                engines.co_results[n] = results.co as u16;
-                engines.co_standards[n] = p.standards.co as u16;
+                let n = p.engines.count;
+                p.engines.count = n + 1;
+                p.engines.numbers[n] = number as u16;
+                p.engines.periods[n] = p.period as u8;
+                p.engines.hcnox_results[n] = results.hcnox as u16;
+                p.engines.hcnox_standards[n] = p.standards.hcnox as u16;
+                p.engines.co_results[n] = results.co as u16;
+                p.engines.co_standards[n] = p.standards.co as u16;
                 p.current += 1;
                 p.hcnox = add(p.hcnox, results.hcnox, p.standards.hcnox, RESOLUTION);
                 p.co = add(p.co, results.co, p.standards.co, RESOLUTION);
@@ -88,9 +84,9 @@ pub fn enter_slots(journal: &[u8], count: usize, first: Progress) -> Scanned
             }
             Event::Declaration => p.declared = true,
             Event::Deletion => {
-                engines.count -= 1;
+                p.engines.count -= 1;
                 p.current -= 1;
-                let worked = rework(engines, RESOLUTION);
+                let worked = rework(&p.engines, RESOLUTION);
                 let hcnox = worked.hcnox;
                 let co = worked.co;
                 p.hcnox = hcnox;
@@ -98,7 +94,6 @@ pub fn enter_slots(journal: &[u8], count: usize, first: Progress) -> Scanned
             }
         }
     }
-    p.engines = engines;
     Scanned {
         accepted: true,
         progress: p,
