@@ -9,9 +9,9 @@ use protocol::HELD_SIZE;
 // are, so none is held after the 65th.
 pub fn hold(line: &mut [u8], count: usize, byte: u8) -> usize
     requires { length line.old ≡ 65 }
-    ensures line_after { take result line.new ≡ held (take count line.old) byte }
-    ensures line_after_2 { line.new ≡ buffer_with line.old count byte }
-    ensures value { result ≡ length (held (take count line.old) byte) }
+    ensures line_held { take result line.new ≡ held (take count line.old) byte }
+    ensures line_after { line.new ≡ buffer_with line.old count byte }
+    ensures count { result ≡ length (held (take count line.old) byte) }
 {
     if HELD_SIZE <= count {
         return HELD_SIZE;

@@ -42,9 +42,9 @@ pub fn key(
     out: &mut [u8; REPLY_SIZE],
 ) -> usize
     ensures shown { Shown (shown_at byte (take held.old buffer.old) journal.old) out.old out.new result }
-    ensures buffer_after { take held.new buffer.new ≡ held_at byte (take held.old buffer.old) }
+    ensures line_held { take held.new buffer.new ≡ held_at byte (take held.old buffer.old) }
     ensures held_after { held.new ≡ length (held_at byte (take held.old buffer.old)) }
-    ensures buffer_after_2 { buffer.new ≡ buffer_at byte buffer.old held.old }
+    ensures buffer_after { buffer.new ≡ buffer_at byte buffer.old held.old }
     ensures journal_after { journal.new ≡ journal_at byte (take held.old buffer.old) journal.old }
 {
     if byte != b'\n' {

@@ -9,7 +9,7 @@ pub mod summary;
 use year::MOST_ENGINES;
 
 // Each engine's number and period, and for each pollutant its result and the standard in force when it was entered. Places from `count` on are unused.
-// The elements are as narrow as their ranges allow, since the whole struct is passed by value.
+// The elements are as narrow as their ranges allow, since the whole struct is moved when an event changes it.
 #[derive(Drop)]
 pub struct Engines {
     pub count: usize,

@@ -23,7 +23,7 @@ pub fn read_status(journal: &[u8]) -> Answer
     ensures outcome { outcome_of result ≡ outcome (Ask ReadStatus) journal.now }
 {
     let scanned = scan_journal(journal);
-    let number = status_refusal(journal, scanned);
+    let number = status_refusal(journal, &scanned);
     if number != 0 {
         return Answer::Refused(number);
     }
@@ -36,15 +36,16 @@ pub fn write_marks(journal: &[u8], out: &mut [u8]) -> OutputAnswer
     ensures out_after { out.new ≡ out_after Marks journal.now out.old }
 {
     let scanned = scan_journal(journal);
-    let refusal = marks_refusal(journal, scanned, out.len());
+    let refusal = marks_refusal(journal, &scanned, out.len());
     if refusal != 0 {
         return OutputAnswer { refusal, length: 0 };
     }
     let engines = scanned.progress.engines;
+    let count = engines.count;
     print_marks(engines, RESOLUTION, out);
     OutputAnswer {
         refusal: 0,
-        length: 2 * engines.count,
+        length: 2 * count,
     }
 }
 

@@ -2,14 +2,15 @@
 use mathlib.Core.Path.{◌≡◌, refl, sym, ◌∙◌}
 use mathlib.Core.Bool.{Bool, true, false}
 use mathlib.Core.List.{List, [], ◌∷◌, ◌++◌}
-use Prim.Native.Nat.{ℕ, zero, suc, ◌+◌, ◌<◌}
+use Prim.Native.Nat.{ℕ, zero, suc, ◌+◌, ◌-◌, ◌<◌, ◌≤◌}
+use native.Mathlib.Omega.{arith}
 use native.Mathlib.Numerals.{add-one}
 use lib.ListN.{length, take, get_or}
 use lib.Seq.{take-suc}
 use Rattle.buffers.specs.Bytes.{zeros}
 use Rattle.protocol.specs.Console.{held_at, journal_at, held_after, journal_past, journal_at_end}
 use Rattle.protocol.proofs.Console.{console}
-use Rattle.terminal.specs.Taken.{Kept, Fetched, Answered}
+use Rattle.terminal.specs.Taken.{Kept, Taken, Fetched, Answered}
 
 held_on : (a b line : List ℕ) → held_after (a ++ b) line ≡ held_after b (held_after a line)
 held_on [] b line = refl
@@ -32,6 +33,29 @@ module _ {line journal held left held2 left2 : List ℕ} where
   pub one_more : (piece : List ℕ) (i : ℕ) → i < length piece → Kept (take i piece) line journal held left
       → (held2 ≡ held_at (get_or piece i 0) held) × (left2 ≡ journal_at (get_or piece i 0) held left) → Kept (take (i + 1) piece) line journal held2 left2
   one_more piece i h k t = rw (add-one, take-suc piece i 0) (onto (take i piece) (get_or piece i 0 ∷ []) k (record { holds = t.0; leaves = t.1 }))
+
+-- what earlier reads brought is taken; it is nothing if no read may follow the first
+pub record Before (most more : ℕ) (line journal held left : List ℕ) : Type 0 where
+  pub before : List ℕ
+  pub first : most ≡ 0 → before ≡ []
+  pub fewer : more ≤ most
+  pub kept : Kept before line journal held left
+
+module _ {most more : ℕ} {line journal held left : List ℕ} (b : Before most more line journal held left) (all : Bool) (piece held2 left2 : List ℕ)
+    (t : Taken all piece held left held2 left2) where
+  -- this read is the last
+  pub last-read : Fetched most all piece line journal held2 left2
+  last-read = record { before = b.before; first = b.first; last = rw (← b.kept.holds, ← b.kept.leaves) t }
+
+  -- or another read follows
+  pub next-read : all ≡ true → (more ≡ 0 → ⊥) → Before most (more - 1) line journal held2 left2
+  next-read e some =
+      record {
+        before = b.before ++ piece;
+        first = λ none. absurd (some (omega (arith, b.fewer, none)));
+        fewer = omega (arith, b.fewer);
+        kept = onto b.before piece b.kept (rw e at t);
+      }
 
 -- what was taken is some input
 module _ {piece line journal held left : List ℕ} {most : ℕ} where
