@@ -11,7 +11,6 @@ use Rattle.reference.specs.Call.{Marks, Write, Ask}
 use Rattle.reference.specs.Answers.{refusal_on, out_after, out_part, output_answer}
 use Rattle.reference.proofs.Demand1.{demand-1}
 use Rattle.reference.proofs.Demand2.{demand-2}
-use Rattle.queries.specs.contracts.write_front as write
 use Rattle.queries.proofs.write_front.Symbol as write_def
 use Rattle.queries.proofs.write_front.Met as write_thm
 use Rattle.queries.specs.contracts.marks.Key as key

@@ -1,6 +1,5 @@
-use Rattle.std.proofs.Common.{◌≡◌, sym, ◌∙◌}
+use Rattle.std.proofs.Common.{sym, ◌∙◌}
 use Rattle.reference.specs.Call.{ReadStatus, Ask}
-use Rattle.reference.specs.Answers.{refusal_on}
 use Rattle.reference.proofs.Promises.{refused}
 use Rattle.queries.proofs.Written.{status-ready, status-done}
 use Rattle.queries.proofs.read_status.Goals as goal

@@ -1,4 +1,4 @@
-use Rattle.std.proofs.Common.{◌≡◌, sym, ◌∙◌, arith}
+use Rattle.std.proofs.Common.{sym, ◌∙◌, arith}
 use Rattle.queries.proofs.Written.{marks-refused, marks-few, marks-room, marks-range, marks-done}
 use Rattle.queries.proofs.write_marks.Goals as goal
 
