@@ -1,7 +1,7 @@
 -- A deviation in code: its products fit 64 bits, and the root of the quotient, with a test of its square, gives s and e.
 use mathlib.Core.Path.{◌≡◌, sym, ◌∙◌}
 use Prim.Native.Nat.{ℕ, ◌+◌, ◌-◌, ◌*◌, ◌/◌, ◌^◌, ◌≤◌, ◌<◌}
-use native.Mathlib.Nat.{le_trans, lt_of_le_of_lt, lt_of_not-le, not-le_of_lt, sub-le, mul-le-mul, mul-le-mul_left, le-mul_of_pos_right, div-lt_iff_lt-mul}
+use native.Mathlib.Nat.{lt_of_le_of_lt, lt_of_not-le, not-le_of_lt, mul-le-mul, le-mul_of_pos_right}
 use native.Mathlib.Omega.{arith}
 use borrow.Author.Tests.{eq-eqb, ne_eqb}
 use Rattle.statistics.specs.Spread.{root, deviation}
@@ -14,15 +14,6 @@ module _ (k i v : ℕ) (h : DeviationInRange k i v) where
 
   pub scaled_fits : k * k * v < 2 ^ 64
   scaled_fits = omega (arith, mul-le-mul square-fits h.variation, mul-le-mul h.few h.few)
-
-  pub quotient_fits : (k * k * v) / (i * (i - 1)) < 2 ^ 62
-  quotient_fits = (div-lt_iff_lt-mul (divisor-pos i h.two)).1 (omega (arith, mul-le-mul square-fits h.variation, doubled, divisor-pos i h.two))
-    where
-      doubled : i * i ≤ i * (2 * (i - 1))
-      doubled = mul-le-mul_left i (omega arith)
-
-  pub divisor-fits : i * (i - 1) < 2 ^ 64
-  divisor-fits = omega (arith, mul-le-mul h.few (le_trans (sub-le i 1) h.few))
 
   -- s as the code finds it: the root of the integer quotient
   module _ (s : ℕ) (e : s ≡ root 1 ((k * k * v) / (i * (i - 1)))) where
