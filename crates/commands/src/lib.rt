@@ -32,10 +32,10 @@ fn reply_short(journal: &mut [u8], line: &[u8], out: &mut [u8]) -> usize
 // Writes the reply to a line at the front of the output, and returns its length, always less than the output's. A line of more than 64 bytes is refused by 1,
 // and an empty one, which has no letter, by 2.
 pub fn reply(journal: &mut [u8], line: &[u8], out: &mut [u8; REPLY_SIZE]) -> usize
-    ensures value { result ≡ length (reply_to line.now journal.old) }
+    ensures size { result ≡ length (reply_to line.now journal.old) }
     ensures out_after { out.new ≡ put out.old 0 (reply_to line.now journal.old) }
     ensures journal_after { journal.new ≡ journal_after_line line.now journal.old }
-    ensures upper_bound { (result < 96) × (length out.new ≡ 96) }
+    ensures within { (result < 96) × (length out.new ≡ 96) }
 {
     if LINE_SIZE < line.len() {
         return write_refusal(1, out);

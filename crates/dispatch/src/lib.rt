@@ -18,7 +18,7 @@ use replies::{write_answer, write_marks_front, write_refusal};
 // "E: engine number, its HC+NOx readings, as many CO readings."
 fn enter_keyed(journal: &mut [u8], values: &[u32]) -> Answer
     requires { 1 ≤ length values.now }
-    ensures value { result ≡ answer (Enter (engine_from values.now)) journal.old }
+    ensures answer { result ≡ answer (Enter (engine_from values.now)) journal.old }
     ensures journal_after { journal.new ≡ journal_after (Enter (engine_from values.now)) journal.old }
 {
     let middle = 1 + values.len() / 2;
@@ -28,7 +28,7 @@ fn enter_keyed(journal: &mut [u8], values: &[u32]) -> Answer
 // Makes an entry.
 fn enter(journal: &mut [u8], entry: EntryRequest, values: &[u32]) -> Answer
     requires { EnoughForEntry entry values.now }
-    ensures value { result ≡ answer (Enter (entry_for entry values.now)) journal.old }
+    ensures answer { result ≡ answer (Enter (entry_for entry values.now)) journal.old }
     ensures journal_after { journal.new ≡ journal_after (Enter (entry_for entry values.now)) journal.old }
 {
     match entry {

@@ -17,10 +17,10 @@ use text::put_bytes;
 // A key line without its newline: puts its reply at the front of the output and returns its length. With under 96 bytes of output, does nothing and returns 0.
 #[unsafe(no_mangle)]
 pub extern "C" fn plt_command(journal: &mut [u8], line: &[u8], out: &mut [u8]) -> usize
-    ensures value { result ≡ reply_count line.now journal.old out.old }
+    ensures count { result ≡ reply_count line.now journal.old out.old }
     ensures out_after { out.new ≡ reply_left line.now journal.old out.old }
     ensures journal_after { journal.new ≡ line_left line.now journal.old out.old }
-    ensures upper_bound { result < 96 }
+    ensures within { result < 96 }
 {
     if out.len() < REPLY_SIZE {
         return 0;
@@ -40,7 +40,7 @@ pub extern "C" fn plt_engine(
     co: &[u32],
     figures: &mut [u64],
 ) -> u8
-    ensures value { result ≡ refusal_given (Enter (engine_entry number hcnox.now co.now)) journal.old figures.old }
+    ensures refusal { result ≡ refusal_given (Enter (engine_entry number hcnox.now co.now)) journal.old figures.old }
     ensures figures_after { figures.new ≡ figures_left (Enter (engine_entry number hcnox.now co.now)) journal.old figures.old }
     ensures journal_after { journal.new ≡ journal_left (Enter (engine_entry number hcnox.now co.now)) journal.old figures.old }
 {
@@ -53,7 +53,7 @@ pub extern "C" fn plt_engine(
 // Status: returns the refusal, 0 for none, and writes the figures. With room for under twenty figures, does nothing and returns 255.
 #[unsafe(no_mangle)]
 pub extern "C" fn plt_status(journal: &[u8], figures: &mut [u64]) -> u8
-    ensures value { result ≡ refusal_given (Ask ReadStatus) journal.now figures.old }
+    ensures refusal { result ≡ refusal_given (Ask ReadStatus) journal.now figures.old }
     ensures figures_after { figures.new ≡ figures_left (Ask ReadStatus) journal.now figures.old }
 {
     if figures.len() < 20 {
@@ -65,7 +65,7 @@ pub extern "C" fn plt_status(journal: &[u8], figures: &mut [u64]) -> u8
 // Marks: returns the refusal, 0 for none, and writes the marks at the front of the output, and into `written` how many bytes they are.
 #[unsafe(no_mangle)]
 pub extern "C" fn plt_marks(journal: &[u8], out: &mut [u8], written: &mut usize) -> u8
-    ensures value { result ≡ (output_answer Marks journal.now out.old).refusal }
+    ensures refusal { result ≡ (output_answer Marks journal.now out.old).refusal }
     ensures out_after { out.new ≡ out_after Marks journal.now out.old }
     ensures written_after { written.new ≡ (output_answer Marks journal.now out.old).length }
 {
