@@ -7,7 +7,7 @@ use native.Mathlib.Nat.{sub-zero}
 use native.Mathlib.Numerals.{add-one}
 use native.Mathlib.Omega.{arith}
 use lib.Dec.{eqb}
-use lib.ListN.{length, get_or, take, drop, set, length-drop, get_or-eq_default}
+use lib.ListN.{length, get_or, take, drop, set, length-drop}
 use lib.Seq.{take-suc-set, length-take-le}
 use borrow.Author.Tests.{eq-eqb, ne_eqb}
 use Rattle.buffers.specs.Bytes.{put}
@@ -49,11 +49,6 @@ spaced-ends line at v next e =
     let P = Ends line (at + 1 + 1) in
     let ends = subst P e (by-test P (eqb (get_or line at 0) 32) (number_at line (at + 1)) Nothing (λ _. number-ends line (at + 1)) (λ _. tt)) in
     (omega (arith, ends.0), ends.1)
-
--- at the line's end there is no number
-pub nothing-past : (line : List ℕ) (at : ℕ) → length line ≤ at → spaced_number line at ≡ Nothing
-unfolding spaced_number
-nothing-past line at h = rw (get_or-eq_default line 0 h)
 
 -- ---- what was read
 

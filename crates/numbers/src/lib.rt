@@ -18,6 +18,7 @@ pub enum Numbers {
 }
 
 // A space at a position, and the number after it.
+#[tactic(auto, unfolding(protocol::specs::KeyLine::spaced_number, protocol::specs::KeyLine::spaced_outcome))]
 pub fn spaced_number(line: &[u8], at: usize) -> Number
     ensures number { result ≡ spaced_number line.now at }
     ensures outcome { number_outcome_of result ≡ spaced_outcome line.now at }

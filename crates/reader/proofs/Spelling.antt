@@ -1,6 +1,6 @@
 -- The digits at a position of a line, one at a time, and the number that they spell.
 use mathlib.Core.Path.{◌≡◌, refl}
-use mathlib.Core.Bool.{Bool, true, false, not, ◌||◌, and-eq-true_iff}
+use mathlib.Core.Bool.{true, false, not, ◌||◌, and-eq-true_iff}
 use mathlib.Core.List.{List, [], ◌∷◌, ◌++◌}
 use Prim.Native.Nat.{ℕ, suc, ◌+◌, ◌-◌, ◌*◌, ◌^◌, ◌≤◌, ◌<◌}
 use native.Mathlib.Decide.{dec_lt}
@@ -37,16 +37,12 @@ module _ (line : List ℕ) (i : ℕ) where
   unfolding digits
   digits_step h e = rw (add-one, drop-cons line i 0, e)
 
-  -- if there are digits at i, the first of them is within the line
-  pub digits-here : 0 < digits (drop i line) → (i < length line) × (is_digit (get_or line i 0) ≡ true)
-  digits-here h = by (dec_lt i (length line))
+  -- if there are digits at i, it is within the line
+  pub first_digit : 0 < digits (drop i line) → i < length line
+  first_digit h = by (dec_lt i (length line))
     where
-      test : i < length line → (b : Bool) → is_digit (get_or line i 0) ≡ b → is_digit (get_or line i 0) ≡ true
-      test l true e = e
-      test l false e = absurd (omega (arith, digits-stop l e))
-
-      by : Dec (i < length line) → (i < length line) × (is_digit (get_or line i 0) ≡ true)
-      by (yes l) = (l, test l (is_digit (get_or line i 0)) refl)
+      by : Dec (i < length line) → i < length line
+      by (yes l) = l
       by (no f) = absurd (omega (arith, digits-past (omega arith)))
 
 -- the number that digits spell, with one more digit

@@ -40,6 +40,7 @@ fn read_digits(line: &[u8], at: usize) -> Digits
 }
 
 // Whether the digits from `at` up to `end` are a number: 1 to 8 of them, with no leading zero except in 0 itself.
+#[tactic(auto, using(crate::proofs::Spelling::first_digit), unfolding(protocol::specs::Number::is_number))]
 fn is_number(line: &[u8], at: usize, end: usize) -> bool
     requires after { at ≤ end }
     requires among { end ≤ at + digits (drop at line.now) }

@@ -24,6 +24,7 @@ pub fn new<'a>(line: &'a [u8], at: usize) -> Reader<'a>
 }
 
 // The number at the reader's position.
+#[tactic(auto, unfolding(protocol::specs::Number::number_at, protocol::specs::Number::number_outcome))]
 pub fn next_number<'a>(r: Reader<'a>) -> Number
     ensures number { result ≡ number_at r.entry.line.now r.entry.at }
     ensures outcome { number_outcome_of result ≡ number_outcome r.entry.line.now r.entry.at }
