@@ -58,7 +58,7 @@ module _ (entry : Entry) (journal : List ℕ) (scanned : Scanned) (t : ScannedAs
         }
 
     added-answer : number ≡ 0 → answer_to (Add event) (progress_of scanned.progress) ≡ answer (Enter entry) journal
-    added-answer h = rw (accepted-answer (Enter entry) journal h, demand-2.entered entry journal s es e h, year-is, event-is)
+    added-answer h = ap (answer_to (Add event)) year-is ∙ rw (accepted-answer (Enter entry) journal h, demand-2.entered entry journal s es e h, event-is)
 
     added-journal : number ≡ 0 → journal_with (Add event) journal ≡ journal_after (Enter entry) journal
     added-journal h = rw (event-is) (sym (demand-1.entry_written entry journal s es e h))

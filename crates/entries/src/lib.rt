@@ -23,8 +23,8 @@ use year::Setup;
 
 // Setup: all of the buffer is written, whatever it held.
 pub fn set_up(journal: &mut [u8], s: Setup) -> Answer
-    ensures value { result ≡ answer (SetUp s) journal.old }
-    ensures result_value { outcome_of result ≡ outcome (SetUp s) journal.old }
+    ensures answer { result ≡ answer (SetUp s) journal.old }
+    ensures outcome { outcome_of result ≡ outcome (SetUp s) journal.old }
     ensures journal_after { journal.new ≡ journal_after (SetUp s) journal.old }
 {
     let refused = setup_refusal(journal, s);
@@ -38,7 +38,7 @@ pub fn set_up(journal: &mut [u8], s: Setup) -> Answer
 // Carries out the decision on an entry: an added event is appended to the journal, and the answer is the status of the year with it.
 fn enter(journal: &mut [u8], p: Progress, decision: Decision) -> Answer
     requires { Enterable journal.old p decision }
-    ensures value { result ≡ answer_to decision (progress_of p) }
+    ensures answer { result ≡ answer_to decision (progress_of p) }
     ensures journal_after { journal.new ≡ journal_with decision journal.old }
 {
     match decision {
@@ -52,22 +52,22 @@ fn enter(journal: &mut [u8], p: Progress, decision: Decision) -> Answer
 
 // An engine with its number and its readings for each pollutant.
 pub fn enter_engine(journal: &mut [u8], number: u32, hcnox: &[u32], co: &[u32]) -> Answer
-    ensures value { result ≡ answer (Enter (engine_entry number hcnox.now co.now)) journal.old }
-    ensures result_value { outcome_of result ≡ outcome (Enter (engine_entry number hcnox.now co.now)) journal.old }
+    ensures answer { result ≡ answer (Enter (engine_entry number hcnox.now co.now)) journal.old }
+    ensures outcome { outcome_of result ≡ outcome (Enter (engine_entry number hcnox.now co.now)) journal.old }
     ensures journal_after { journal.new ≡ journal_after (Enter (engine_entry number hcnox.now co.now)) journal.old }
 {
     let scanned = scan_journal(journal);
-    let decision = engine(journal, scanned, number, hcnox, co);
+    let decision = engine(journal, &scanned, number, hcnox, co);
     enter(journal, scanned.progress, decision)
 }
 
 // A change, which has no readings: an amendment, the next period, a declaration, a deletion ("strike").
 pub fn enter_change(journal: &mut [u8], c: Change) -> Answer
-    ensures value { result ≡ answer (Enter (EnterChange c)) journal.old }
-    ensures result_value { outcome_of result ≡ outcome (Enter (EnterChange c)) journal.old }
+    ensures answer { result ≡ answer (Enter (EnterChange c)) journal.old }
+    ensures outcome { outcome_of result ≡ outcome (Enter (EnterChange c)) journal.old }
     ensures journal_after { journal.new ≡ journal_after (Enter (EnterChange c)) journal.old }
 {
     let scanned = scan_journal(journal);
-    let decision = change(journal, scanned, c);
+    let decision = change(journal, &scanned, c);
     enter(journal, scanned.progress, decision)
 }

@@ -21,8 +21,8 @@ module _ (journal : List ℕ) where
   abbrev count : ℕ
   count = get_or journal 24 0
 
-  pub other-size : (length journal ≡ 544 → ⊥) → read_journal journal ≡ NoSetup
-  other-size f = not-acceptable journal (λ p. f p.size)
+  pub other_size : (length journal ≡ 544 → ⊥) → read_journal journal ≡ NoSetup
+  other_size f = not-acceptable journal (λ p. f p.size)
 
   pub too_many : 64 < count → read_journal journal ≡ NoSetup
   too_many h = not-acceptable journal (λ p. omega (arith, p.count))

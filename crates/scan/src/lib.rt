@@ -27,6 +27,7 @@ fn scan_events(journal: &[u8], count: usize) -> Scanned
 }
 
 // Reads a whole buffer: tests its size, header, version and unused slots, and then enters its events.
+#[tactic(auto, using(crate::proofs::Whole::other_size, crate::proofs::Whole::too_many))]
 pub fn scan_journal(journal: &[u8]) -> Scanned
     ensures { ScannedAs result (read_journal journal.now) }
 {

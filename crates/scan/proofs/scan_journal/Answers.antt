@@ -1,16 +1,8 @@
 -- A test that fails shows a part that no accepted journal has; if none fails, the events decide.
 use mathlib.Core.Path.{sym, subst}
 use Rattle.slots.specs.Scanned.{ScannedAs}
-use Rattle.scan.proofs.Whole.{other-size, too_many, other-bytes, by-events}
+use Rattle.scan.proofs.Whole.{other-bytes, by-events}
 use Rattle.scan.proofs.scan_journal.Goals as goal
-
-pub returns-then-journal-ne-JOURNAL_SIZE : goal.returns-then-journal-ne-JOURNAL_SIZE
-returns-then-journal-ne-JOURNAL_SIZE c =
-    subst (ScannedAs c.no_journal.result) (sym (other-size _ c.if-journal-ne-JOURNAL_SIZE.true)) c.no_journal.ensures
-
-pub returns-then-count-gt-SLOTS : goal.returns-then-count-gt-SLOTS
-returns-then-count-gt-SLOTS c =
-    let r = c.no_journal-then-count-gt-SLOTS in subst (ScannedAs r.result) (sym (too_many _ c.if-count-gt-SLOTS.true)) r.ensures
 
 pub returns-then-not-both : goal.returns-then-not-both
 returns-then-not-both c =
