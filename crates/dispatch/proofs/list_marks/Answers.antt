@@ -1,8 +1,5 @@
-use Rattle.std.proofs.Common.{◌≡◌, ◌≢◌, ap, sym, ◌∙◌, length, take, drop}
-use Rattle.journal.specs.Read.{read_journal}
+use Rattle.std.proofs.Common.{◌≡◌, ap, sym, ◌∙◌}
 use Rattle.reference.specs.declared.OutputAnswer.{OutputAnswer}
-use Rattle.reference.specs.Call.{Marks, Write, Ask}
-use Rattle.reference.specs.Answers.{refusal_on, out_bytes}
 use Rattle.dispatch.proofs.Listing.{refused-reply, few-marks, count-is, marks-reply}
 use Rattle.dispatch.proofs.list_marks.Goals as goal
 

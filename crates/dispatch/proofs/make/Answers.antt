@@ -1,4 +1,4 @@
-use Rattle.std.proofs.Common.{sym, ap}
+use Rattle.std.proofs.Common.{sym}
 use Rattle.reference.specs.Call.{Marks, Write}
 use Rattle.reference.proofs.Demand1.{demand-1}
 use Rattle.dispatch.proofs.make.Goals as goal
