@@ -1,3 +1,1 @@
-pub mod Parts
 pub mod Listing
-pub mod Made

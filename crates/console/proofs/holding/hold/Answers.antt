@@ -1,6 +1,6 @@
 use Rattle.std.proofs.Common.{ℕ, List, ◌≡◌, ◌∙◌, sym, ap, arith, [], ◌∷◌, ◌++◌, ◌+◌, ◌≤◌, ◌<◌, length, take, set, length-set, length-append, add-one}
 use lib.Seq.{length-take-le, take_all, take_at, take-suc-set}
-use borrow.Author.Tests.{lt-ltb, le-ltb}
+use borrow.Author.Tests.{lt-ltb}
 use Rattle.buffers.proofs.Lists.{put_one}
 use Rattle.console.proofs.holding.hold.Goals as goal
 
