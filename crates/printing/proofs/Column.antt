@@ -1,13 +1,12 @@
 -- Filling a pollutant's column of marks, engine by engine: the figures of each engine fit, and C and the mark are computed from what is carried.
 use mathlib.Core.Path.{◌≡◌, refl, ap, ◌∙◌}
-use mathlib.Core.List.{List, [], ◌∷◌}
+use mathlib.Core.List.{List, ◌∷◌}
 use Prim.Native.Nat.{ℕ, suc, ◌+◌, ◌≤◌, ◌<◌}
 use native.Mathlib.Numerals.{add-one}
 use native.Mathlib.Omega.{arith}
 use borrow.Author.Count.{below_more}
-use lib.ListN.{length, get_or, set, replicate, length-set}
+use lib.ListN.{length, get_or, set, length-set}
 use lib.Seq.{get_or-set_same, get_or-set_other}
-use Rattle.ascii.specs.Text.{byte}
 use Rattle.statistics.specs.declared.Deviation.{Deviation}
 use Rattle.statistics.specs.Spread.{Test, deviation}
 use Rattle.spread.specs.declared.Sums.{Sums}
@@ -35,9 +34,6 @@ pub record Carried (k : ℕ) (xs ts : List ℕ) (i : ℕ) (column : List ℕ) (s
   pub places : length column ≡ 40
   pub first : get_or column 0 0 ≡ mark_byte (mark k (tests_to xs ts 1))
   pub marked : MarkedTo k xs ts i column
-
-pub carried-start : (k : ℕ) (xs ts : List ℕ) (s : Sums) → s ≡ sums [] → Carried k xs ts 0 (replicate 40 (byte "-")) s (record { low = 0; high = 0 })
-carried-start k xs ts s e = record { summed = e; totalled = refl; places = refl; first = refl; marked = λ i h. absurd (omega arith) }
 
 module _ {k : ℕ} {xs ts : List ℕ} {i n : ℕ} {column : List ℕ} {s : Sums} {c : Interval} (w : Carried k xs ts i column s c) (all : ColumnsInRange xs ts n k)
     (inside : i < n) where

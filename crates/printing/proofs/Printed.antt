@@ -1,29 +1,26 @@
 -- The bytes of the marks of the engines before a place, the same with one more engine, and a buffer that has them at its front.
 use mathlib.Core.Path.{◌≡◌, ap, ◌∙◌}
 use mathlib.Core.List.{List, [], ◌∷◌, ◌++◌, map, map-append}
-use Prim.Native.Nat.{ℕ, suc, ◌+◌, ◌*◌, ◌≤◌, ◌<◌}
+use Prim.Native.Nat.{ℕ, suc, ◌+◌, ◌*◌, ◌<◌}
 use native.Mathlib.Numerals.{add-one}
 use native.Mathlib.Omega.{arith}
 use lib.ListN.{length, get_or, length-map}
 use Rattle.buffers.specs.Bytes.{put}
-use Rattle.buffers.proofs.Lists.{put-put, length-put}
+use Rattle.buffers.proofs.Lists.{put-put}
 use Rattle.cumsum.specs.Marks.{mark, mark_byte}
 use Rattle.year.specs.Setup.{Pollutant, Hcnox, Co, judged}
 use Rattle.year.specs.Replay.{history}
 use Rattle.year.specs.Status.{printed_marks}
 use Rattle.year.proofs.Kept.{printed-length}
 use Rattle.engines.specs.declared.Engines.{Engines}
-use Rattle.engines.specs.Engines.{result_column, standard_column, tested_to, EnginesInRange}
-use Rattle.engines.proofs.Arrays.{tested-length, tested-history, columns-fit, columns-few}
+use Rattle.engines.specs.Engines.{result_column, standard_column, tested_to}
+use Rattle.engines.proofs.Arrays.{tested-length, tested-history}
 use Rattle.printing.specs.Columns.{MarkedTo}
 
 module _ (k : ℕ) (e : Engines) where
   -- the bytes of the marks of the engines before a place
   abbrev pub bytes_to : ℕ → List ℕ
   bytes_to i = map mark_byte (printed_marks judged k (tested_to e i))
-
-  pub few : EnginesInRange e k → e.count ≤ 40
-  few r = columns-few (result_column Hcnox e) (standard_column Hcnox e) k e.count (columns-fit Hcnox e k r)
 
   -- a pollutant's column of marks, and an engine's byte in it
   abbrev pub ColumnOf : Pollutant → List ℕ → Type 0
@@ -42,11 +39,8 @@ module _ (k : ℕ) (e : Engines) where
   length-bytes : (i : ℕ) → length (bytes_to i) ≡ 2 * i
   length-bytes i = length-map (printed_marks judged k (tested_to e i)) mark_byte ∙ printed-length judged k (tested_to e i) ∙ ap (λ (n : ℕ). 2 * n) (tested-length e i)
 
-  -- a buffer with these bytes at its front: its length, and writing the marks of one more engine
+  -- writing the marks of one more engine into a buffer with these bytes at its front
   module _ (out : List ℕ) (i : ℕ) (printed : List ℕ) (p : printed ≡ put out 0 (bytes_to i)) where
-    pub length-printed : 2 * i ≤ length out → length printed ≡ length out
-    length-printed h = rw p (length-put out 0 (bytes_to i) (omega (arith, length-bytes i)))
-
     pub printed-next : (h o : List ℕ) → ColumnOf Hcnox h → ColumnOf Co o → i < e.count
         → put printed (2 * i) (get_or h i 0 ∷ get_or o i 0 ∷ []) ≡ put out 0 (bytes_to (i + 1))
     printed-next h o mh mo l =

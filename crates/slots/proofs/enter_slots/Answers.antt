@@ -56,6 +56,9 @@ bounds-p-n-in-Engine-4 c = (small c.is_slot.result c.loop-j.invariant.entered.co
 pub offset_bounds-p-n-in-Engine-4 : goal.offset_bounds-p-n-in-Engine-4
 offset_bounds-p-n-in-Engine-4 c = omega (arith, small c.is_slot.result c.loop-j.invariant.entered.consistent c.is_admissible.ensures c.if-not-both.ensures c.in-Engine.is)
 
+pub overflow_cast-p-in-Engine-5 : goal.overflow_cast-p-in-Engine-5
+overflow_cast-p-in-Engine-5 c = omega (arith, small c.is_slot.result c.loop-j.invariant.entered.consistent c.is_admissible.ensures c.if-not-both.ensures c.in-Engine.is)
+
 pub bounds-p-n-in-Engine-5 : goal.bounds-p-n-in-Engine-5
 bounds-p-n-in-Engine-5 c = (small c.is_slot.result c.loop-j.invariant.entered.consistent c.is_admissible.ensures c.if-not-both.ensures c.in-Engine.is).0
 
