@@ -47,22 +47,22 @@ module _ (call : Call) (journal : List ℕ) where
   abbrev number : ℕ
   number = refusal_on call journal
 
+  -- (`rw` before `refl`: if the two differ, that is found at once)
   pub accepted-answer : number ≡ 0 → answer call journal ≡ Accepted status
   unfolding answer
-  accepted-answer h = accepted-gives call journal (Accepted status) (Refused number) h
+  accepted-answer h = rw (eq-eqb number 0 h) refl
 
   pub refused-answer : number ≢ 0 → answer call journal ≡ Refused number
   unfolding answer
-  refused-answer h = refused-gives call journal (Accepted status) (Refused number) h
+  refused-answer h = rw (ne_eqb number 0 h) refl
 
   pub answer-outcome : outcome_of (answer call journal) ≡ outcome call journal
   unfolding answer outcome
   answer-outcome = by (eqb number 0) refl
     where
-      by : (b : Bool) → eqb number 0 ≡ b
-          → outcome_of (cond b (Accepted status) (Refused number)) ≡ record { refusal = number; status = cond b status no_status }
-      by true e = rw (eqb-true number 0 e)
-      by false e = refl
+      by : (b : Bool) → eqb number 0 ≡ b → outcome_of (answer call journal) ≡ outcome call journal
+      by true e = rw (e, eqb-true number 0 e) refl
+      by false e = rw e refl
 
 -- if a call is accepted, the journal has 544 bytes and, unless the call is a setup, holds a year
 module _ (call : Call) (journal : List ℕ) (h : refusal_on call journal ≡ 0) where
