@@ -23,7 +23,7 @@ fn size_number(size: SampleSize) -> u64
     }
 }
 
-// Puts the nine numbers of one pollutant. (An enum field is copied to a local first: only a local is covered.)
+// Puts the nine numbers of one pollutant.
 fn put_pollutant(part: &mut [u64], f: Figures)
     requires { length part.old ≡ 9 }
     ensures { part.new ≡ pollutant_numbers f }

@@ -19,7 +19,7 @@ pub fn write_refusal(number: u8, out: &mut [u8]) -> usize
     put_number(number as u64, out, at)
 }
 
-// "OK", n, verdict, the two newest marks joined, N in tenths for each pollutant. (An enum field is copied to a local first: only a local is covered.)
+// "OK", n, verdict, the two newest marks joined, N in tenths for each pollutant.
 pub fn write_status(s: Status, out: &mut [u8]) -> usize
     requires { 96 ≤ length out.old }
     ensures { Replied out.old (status_reply s) out.new result }
