@@ -3,7 +3,7 @@
    A journal is a buffer of PLT_JOURNAL_SIZE bytes that the caller owns and lends to each call. It holds the test year of one engine family: a setup, then engines,
    amendments, periods, strikes and a declaration. Start from a buffer of zeros and key a setup ("S ..") with plt_command, which is also the way to amend ("A .."),
    to begin a period ("P"), to declare ("X") and to strike the newest engine ("Z"). docs/MANUAL.md explains the year, the key lines, units, verdicts and refusals,
-   and the layout of the journal. The archive that `rt staticlib plt` builds is for x86-64: ELF, System V calling convention with its red zone and a stack aligned
+   and the layout of the journal. The archive that `rt lib` in crates/plt builds is for x86-64: ELF, System V calling convention with its red zone and a stack aligned
    to 16 bytes, SSE2.
 
    A strike takes the newest engine out of the year, if it was entered in the current period: all figures and marks become what they would be without it. Once the

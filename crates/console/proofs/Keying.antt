@@ -12,8 +12,6 @@ use Rattle.io.proofs.Counting.{prefix_len_of_le}
 use Rattle.buffers.specs.Bytes.{put}
 use Rattle.ascii.specs.Text.{byte}
 use Rattle.buffers.proofs.Lists.{put_one, put-none, put-put}
-use Rattle.protocol.specs.Console.{shown_at_end, journal_at_end}
-use Rattle.protocol.specs.Reply.{reply_to, journal_after_line}
 use Rattle.console.specs.Keys.{Shown}
 
 -- at most as many bytes are held as the buffer has
@@ -40,10 +38,3 @@ with_newline reply out after r size written inside =
       size = omega (arith, size, length-append reply (10 ∷ []));
       fits = prefix_len_of_le (r + 1) (set after r 10) (omega (arith, length-set after r 10, inside));
     }
-
--- at the end of the input, a line of at least one byte is answered
-module _ (journal : List ℕ) where
-  pub some_end : (line : List ℕ) → (length line ≡ 0 → ⊥)
-      → (shown_at_end line journal ≡ reply_to line journal ++ (byte "\n" ∷ [])) × (journal_at_end line journal ≡ journal_after_line line journal)
-  some_end [] some = absurd (some refl)
-  some_end (b ∷ bs) some = (refl, refl)

@@ -1,5 +1,5 @@
 // How many buffers were tried, how many were accepted, and a digest of which. (No count comes near the modulus; it keeps the sums in 64 bits.)
-#[derive(Drop)]
+#[derive(Clone, Copy)]
 pub struct Tally {
     pub tried: u64,
     pub accepted: u64,

@@ -8,7 +8,7 @@ use lib.ListN.{length, take, drop, length-drop}
 use lib.Seq.{length-take-le}
 use borrow.Rule.Slice.PartMut.{put_mid, put_same}
 use Rattle.buffers.specs.Bytes.{put}
-use Rattle.buffers.proofs.Lists.{length-put, put-within}
+use Rattle.buffers.proofs.Lists.{put-within}
 use Rattle.journal.specs.Read.{read_journal}
 use Rattle.reference.specs.Call.{Marks, Write, Ask}
 use Rattle.reference.specs.Answers.{refusal_on, out_bytes, out_after, out_part}
@@ -54,9 +54,6 @@ module _ (journal out : List ℕ) (room : 96 ≤ length out) where
     unfolding out_after
     with-marks =
         ap (put_mid 3 80 out) (accepted-gives (Ask (Write Marks (length part))) journal (put part 0 marks) part fine) ∙ put-within out 3 80 marks few-marks (omega arith)
-
-    pub back-room : 96 ≤ length back
-    back-room = rw (with-marks, length-put out 3 marks (omega (arith, few-marks))) room
 
     pub count-is : length (out_part Marks journal part) ≡ length marks
     unfolding out_part

@@ -2,7 +2,7 @@
 --       let end = write(journal, out, refusal);  &mut out[..end]
 -- where `write` does the work, and reports where the part ends and whether the call is refused. `HandsBack.antt` proves it once for every call of this form.
 use mathlib.Core.Path.{◌≡◌}
-use Prim.Native.Nat.{ℕ, ◌+◌}
+use Prim.Native.Nat.{ℕ}
 use mathlib.Core.List.{List, [], ◌∷◌}
 use lib.ListN.{length, take, drop}
 use seplogic.Ra.Ura.{Ura}
@@ -89,13 +89,12 @@ module _ (output : Output) {M : Type 1} (𝓤 : Ura M) where
         (fact 𝓤 (e.1.0.now ≡ output.after_of a.0.now a.1.0.now));
   }
 
-  -- what the call promises: the part's bytes, where the part starts, every byte behind it, that each byte is in the part or behind it, and the refusal
+  -- what the call promises: the part's bytes, where the part starts, every byte of the buffer when the borrow ends, and the refusal
   abbrev pub Hands : (𝓛 : Logic 𝓤) → Clauses 𝓤 handing
   Hands 𝓛 κs a = record {
     ghost = Unit {0};
     requires = λ _. emp 𝓤;
-    ensures = λ _ r e. let rest = drop (length r.now) (output.after_of a.0.now a.1.0.now) in
-        sep 𝓤 (fact 𝓤 (r.now ≡ output.part_of a.0.now a.1.0.now)) (sep 𝓤 (fact 𝓤 (r.ref_ptr ≡ a.1.0.ref_ptr))
-        (sep 𝓤 (sem 𝓛 (LenderFinds a.1.0 r rest)) (sep 𝓤 (fact 𝓤 (length a.1.0.now ≡ length r.now + length rest))
-        (fact 𝓤 (e.1.1.0.now ≡ output.refusal_of a.0.now a.1.0.now)))));
+    ensures = λ _ r e. sep 𝓤 (fact 𝓤 (r.now ≡ output.part_of a.0.now a.1.0.now)) (sep 𝓤 (fact 𝓤 (r.ref_ptr ≡ a.1.0.ref_ptr))
+        (sep 𝓤 (sem 𝓛 (LenderFinds a.1.0 r (drop (length r.now) (output.after_of a.0.now a.1.0.now))))
+        (fact 𝓤 (e.1.1.0.now ≡ output.refusal_of a.0.now a.1.0.now))));
   }

@@ -7,7 +7,7 @@
 --     hands      hence the call meets its contract, over any tables
 use mathlib.Core.Path.{◌≡◌, refl, sym, ◌∙◌, ap}
 use Prim.Native.Nat.{ℕ, ◌+◌, ◌<◌, ◌^◌}
-use mathlib.Core.List.{List, [], ◌∷◌}
+use mathlib.Core.List.{List, [], ◌∷◌, ◌++◌}
 use native.Mathlib.Omega.{arith}
 use lib.ListN.{length, take, drop as drop-list, length-take, length-drop}
 use seplogic.Ra.Ura.{Ura}
@@ -22,7 +22,7 @@ use prog.Wp.{Calls, Loops, WpFn, Tables}
 use types.Logic.{Logic, sem}
 use contract.Monad.{fact, fact_i}
 use types.Kit.{Item, ‵, raw, ◌⊛◌, ⋆, some, later, ◌$◌, ◌∵◌, !, qed, by, move, keep, use0, use1, use2, use3, drop, rewrite, split, split3, join, pick}
-use types.Kit.{fsplit, fsplit3, fjoin, feq_l, suffices, frame, await, updating, done}
+use types.Kit.{fsplit, fsplit3, fjoin, feq_l, feq_i, suffices, frame, await, updating, done}
 use types.Run.{look, init, forget, stop, hop, fld, from, load, addr, and_then, no_more, assigns}
 use types.Run.{land, returns, enter, alloc1, alloc0, params1, pass1, pass0, free1, free0}
 use types.Part.{agg, whole, sub, look_in}
@@ -43,6 +43,8 @@ use denote.Triple.Statement.{Contract, Triple}
 use denote.Triple.Call.{calls_at}
 use denote.Triple.Clauses.{closing, ensured, lasts}
 use denote.Triple.Walked.{Stays, stay_dropped, gave_ref, on_exit, walk_of, Goes-dropped, Goes-spent_slice, Goes-gave_ref, Walks, ends_at, walked, walk_Meets}
+use denote.Array.{Array}
+use Rattle.std.specs.Borrow.{Lends}
 use Rattle.front_part.specs.Lender.{LenderFinds}
 use Rattle.front_part.proofs.Again.{LentAgain, lends_again, comes_back}
 use Rattle.front_part.proofs.Front.{front_out}
@@ -136,7 +138,7 @@ module _ (output : Output) {M : Type 1} {𝓤 : Ura M} (𝓛 : Logic 𝓤) (κ�
     back γ' = x γ' (take r zs)
 
     abbrev Follows : GName → List ℕ → Fml
-    Follows γ' behind = LenderFinds (x γ ys) (back γ') behind
+    Follows γ' behind = Lends (Array u8 0) (Array u8 0) (x γ ys) (back γ') (λ written. written ++ behind)
 
     abbrev Start : Type 0
     Start = ◌≡◌ {A = ℕ × ℕ} (b, o) (b, o)
@@ -157,15 +159,15 @@ module _ (output : Output) {M : Type 1} {𝓤 : Ura M} (𝓛 : Logic 𝓤) (κ�
     Refused = z ≡ output.refusal_of j.now ys
 
     abbrev Ensures : GName → SProp 𝓤
-    Ensures γ' = sep 𝓤 (fact 𝓤 Part) (sep 𝓤 (fact 𝓤 Start) (sep 𝓤 (sem 𝓛 (Follows γ' rest)) (sep 𝓤 (fact 𝓤 Entire) (fact 𝓤 Refused))))
+    Ensures γ' = sep 𝓤 (fact 𝓤 Part) (sep 𝓤 (fact 𝓤 Start) (sep 𝓤 (sem 𝓛 (LenderFinds (x γ ys) (back γ') rest)) (fact 𝓤 Refused)))
 
     said : (γ' : GName) → ent 𝓤 (sem 𝓛 (Follows γ' (drop-list r zs))) (Ensures γ')
     said γ' =
         qed 𝓛 (‵ (Follows γ' (drop-list r zs)) ∷ []) ∵
         rewrite ! 0 (λ (l : List ℕ). ‵ (Follows γ' l)) same refl $
+        feq_i ! ℕ (length ys) (length (take r zs) + length rest) entire $ fjoin ! $
         use0 𝓛 (raw (fact 𝓤 Part)) (fact_i 𝓤 _ (emp 𝓤) part) $ frame ! $
         use0 𝓛 (raw (fact 𝓤 Start)) (fact_i 𝓤 _ (emp 𝓤) refl) $ frame ! $ frame ! $
-        use0 𝓛 (raw (fact 𝓤 Entire)) (fact_i 𝓤 _ (emp 𝓤) entire) $ frame ! $
         use0 𝓛 (raw (fact 𝓤 Refused)) (fact_i 𝓤 _ (emp 𝓤) (output.refusal j.now ys r z ea)) $ done !
 
     abbrev OnExit : GName → SProp 𝓤

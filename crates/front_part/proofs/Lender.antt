@@ -16,9 +16,12 @@ use denote.Memory.{mem}
 use denote.Ref.{MutBor}
 use Rattle.front_part.specs.Lender.{LenderFinds}
 
--- a buffer of n bytes at (b, o), lent for κ; each of its bytes is in the part or behind it
-module _ {M : Type 1} {𝓤 : Ura M} (𝓛 : Logic 𝓤) (κ : Lft) (n b o : ℕ) (buffer part : MutBor (List ℕ)) (rest : List ℕ) (whole : n ≡ length part.now + length rest) where
+-- a buffer at (b, o), lent for κ
+module _ {M : Type 1} {𝓤 : Ura M} (𝓛 : Logic 𝓤) (κ : Lft) (b o : ℕ) (buffer part : MutBor (List ℕ)) (rest : List ℕ) where
   open 𝓛 use {H, A}
+
+  abbrev n : ℕ
+  n = length buffer.now
 
   -- it holds ws, as many bytes as the part had, and then the rest
   abbrev Found : List ℕ → SProp 𝓤
@@ -30,12 +33,12 @@ module _ {M : Type 1} {𝓤 : Ura M} (𝓛 : Logic 𝓤) (κ : Lft) (n b o : ℕ
   pub lender-finds : ent 𝓤 (sep 𝓤 (A.dead κ) (sep 𝓤 (A.lent κ (Held u8 n b o buffer.ghost_name)) (sem 𝓛 (LenderFinds buffer part rest)))) (H.⇛ (ex 𝓤 Found))
   lender-finds =
       qed 𝓛 (‵ (fdead κ) ∷ ‵ (flent κ (Held u8 n b o buffer.ghost_name)) ∷ ‵ (LenderFinds buffer part rest) ∷ []) ∵ updating ! $
-      lent_back ! tt $ fpick ! (λ zs. fsplit ! $
-      -- [the memory; auth of the buffer's name; how the buffer follows the part]
-      move ! (1 ∷ 2 ∷ []) $
+      lent_back ! tt $ fpick ! (λ zs. fsplit ! $ move ! (2 ∷ []) $ fsplit ! $ feq_l ! (λ whole.
+      -- [how the buffer follows the part; the memory; auth of the buffer's name]
+      move ! (2 ∷ 0 ∷ []) $
       use2 𝓛 (‵ (fex (List ℕ) (λ ws. fsep (feq (List ℕ) zs (joined ws)) (fauth part.ghost_name ((Array u8 0).coded.code ws)))))
       (came 𝓛 (Array u8 0) (Array u8 0) joined buffer.ghost_name part.ghost_name zs) $ fpick ! (λ ws. fsplit ! $ feq_l ! (λ e. drop ! $
       rewrite ! 0 (λ (l : List ℕ). ‵ ((Arr (mem u8) n).own_at l b o)) e refl $ fsplit ! $ feq_l ! (λ all.
       let both : length (joined ws) ≡ length ws + length rest = length-append ws rest in
       feq_i ! ℕ (length (joined ws)) n all $ fjoin ! $ now ! $ show ! Found ws $
-      use0 𝓛 (raw (fact 𝓤 (length ws ≡ length part.now))) (fact_i 𝓤 _ (emp 𝓤) (omega arith)) $ frame ! $ done !))))
+      use0 𝓛 (raw (fact 𝓤 (length ws ≡ length part.now))) (fact_i 𝓤 _ (emp 𝓤) (omega arith)) $ frame ! $ done !)))))

@@ -11,7 +11,7 @@ use protocol::Number;
 use reader::read_number;
 
 // The result of reading a line's numbers: how many there are, or the refusal of a line that is not of the form.
-#[derive(Drop)]
+#[derive(Clone, Copy)]
 pub enum Numbers {
     Count(usize),
     Refused(u8),

@@ -11,14 +11,14 @@ use rounding::Factor;
 use year::{Factors, Pair, Setup};
 
 // The entry that a line asks for. An engine's number and readings stay where they are, in the line's numbers.
-#[derive(Drop)]
+#[derive(Clone, Copy)]
 pub enum EntryRequest {
     Engine,
     Change(Change),
 }
 
 // The call that a line asks for.
-#[derive(Drop)]
+#[derive(Clone, Copy)]
 pub enum CallRequest {
     SetUp(Setup),
     Enter(EntryRequest),
@@ -26,7 +26,7 @@ pub enum CallRequest {
 }
 
 // What a line asks for: a call, or its refusal.
-#[derive(Drop)]
+#[derive(Clone, Copy)]
 pub enum Request {
     Make(CallRequest),
     Refuse(u8),

@@ -4,7 +4,7 @@
 // by `LenderFinds` every byte behind it.
 #![tactic(auto)]
 
-ghost use Rattle.std.specs.Prelude.{◌≡◌, ◌+◌, length, drop};
+ghost use Rattle.std.specs.Prelude.{◌≡◌, length, drop};
 ghost use Rattle.std.specs.Borrow.{sem};
 ghost use Rattle.front_part.specs.Lender.{LenderFinds};
 ghost use Rattle.reference.specs.Call.{Marks, ReadStatus, Write, Ask};
@@ -60,13 +60,11 @@ fn write_front(journal: &[u8], out: &mut [u8], refusal: &mut u8) -> usize
 }
 
 // Marks, handing back just the written part of the output, an empty part if the call is refused. The contract gives the part's bytes, where the part starts,
-// that the lender of the output finds exactly the definition's bytes behind the part when the borrow ends, that each byte of the output is in the part or behind
-// it, and the refusal.
+// that the lender of the output finds exactly the definition's bytes behind the part when the borrow ends, and the refusal.
 pub fn marks<'a>(journal: &[u8], out: &'a mut [u8], refusal: &mut u8) -> &'a mut [u8]
     ensures part { result.now ≡ out_part Marks journal.now out.old }
     ensures same_start { result.ref_ptr ≡ out.entry.ref_ptr }
     ensures* lender_finds { sem 𝓛 (LenderFinds out.entry result (drop (length result.now) (out_after Marks journal.now out.old))) }
-    ensures whole { length out.old ≡ length result.now + length (drop (length result.now) (out_after Marks journal.now out.old)) }
     ensures refusal_after { refusal.new ≡ refusal_on (Ask (Write Marks (length out.old))) journal.now }
 {
     let end = write_front(journal, out, refusal);

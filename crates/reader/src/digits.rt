@@ -7,7 +7,7 @@ ghost use Rattle.reader.specs.Digits.{DigitsRead};
 use protocol::Number;
 
 // Digits of a line: the position after them, and the number that they spell.
-#[derive(Drop)]
+#[derive(Clone, Copy)]
 struct Digits {
     end: usize,
     value: u32,

@@ -10,7 +10,7 @@ use crate::digits::number_at;
 use protocol::Number;
 
 // The line that it was given, and the position of the next byte. The work is done by `number_at`, on the slice and the position.
-#[derive(Drop)]
+#[derive(Clone, Copy)]
 pub struct Reader<'a> {
     pub line: &'a [u8],
     pub at: usize,

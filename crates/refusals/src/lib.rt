@@ -19,7 +19,7 @@ use verdicts::verdict::closed;
 use year::{Event, MOST_EVENTS, Setup};
 
 // The decision on an entry: the event that it adds, or the number of its refusal.
-#[derive(Drop)]
+#[derive(Clone, Copy)]
 pub enum Decision {
     Add(Event),
     Refuse(u8),

@@ -43,11 +43,7 @@ pub record Before (most more : ℕ) (line journal held left : List ℕ) : Type 0
 
 module _ {most more : ℕ} {line journal held left : List ℕ} (b : Before most more line journal held left) (all : Bool) (piece held2 left2 : List ℕ)
     (t : Taken all piece held left held2 left2) where
-  -- this read is the last
-  pub last-read : Fetched most all piece line journal held2 left2
-  last-read = record { before = b.before; first = b.first; last = rw (← b.kept.holds, ← b.kept.leaves) t }
-
-  -- or another read follows
+  -- another read follows
   pub next-read : all ≡ true → (more ≡ 0 → ⊥) → Before most (more - 1) line journal held2 left2
   next-read e some =
       record {

@@ -117,8 +117,8 @@ fn answer_input<R: Print, I: Read>(
     line: &mut [u8; HELD_SIZE],
     held: &mut usize,
 ) -> usize
-    requires journal_value { journal.old ≡ zeros 544 }
-    requires line_value { take held.old line.old ≡ [] }
+    requires zeroed { journal.old ≡ zeros 544 }
+    requires empty { take held.old line.old ≡ [] }
     ensures { Answered result (take held.new line.new) journal.new }
 {
     let mut space = [0u8; PIECE_SIZE];
