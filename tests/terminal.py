@@ -88,14 +88,14 @@ def in_pieces(program, run, sizes):
 
 
 def output_closed(program, ignored):
-    """Nobody reads the output: the program ends although the input goes on, by the signal or, if that is ignored, by itself."""
+    """Nobody reads the output: the program ends by itself although the input goes on. Every program that the toolchain builds ignores the signal of a closed pipe
+    from its start, so it makes no difference whether the signal was ignored before."""
     reader, writer = os.pipe()
     child = start(program, stdin=subprocess.PIPE, stdout=writer, restore_signals=not ignored)
     os.close(reader)
     os.close(writer)
     os.write(child.stdin.fileno(), b'L\nL\n')
-    status = ended(child)
-    assert status == 0 if ignored else status < 0, status
+    assert ended(child) == 0
     child.stdin.close()
 
 

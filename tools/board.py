@@ -19,8 +19,8 @@ class Function:
         self.jumps = set()
 
 
-def read(line, last, function, name):
-    """Counts one instruction; `last` is the one before it."""
+def read(line, before, function, name):
+    """Counts one instruction; `before` holds the three before it."""
     if re.search(r'\tpush\b', line):
         function.frame += 8
     frame = re.search(r'\tsub\s+\$0x([0-9a-f]+),%rsp', line)
@@ -30,26 +30,27 @@ def read(line, last, function, name):
         raise SystemExit(f'{name} has a frame of no fixed size: {line.strip()}')
     if re.search(r'\tcall\s+\*', line):
         raise SystemExit(f'{name} calls through a pointer: {line.strip()}')
-    # a jump through a register is a jump table within the function if its base was just added
-    if re.search(r'\tjmp\s+\*', line) and not re.search(r'\tadd\b', last):
+    # a jump through a register is a jump table within the function if the table's address was just added to that register
+    jump = re.search(r'\tjmp\s+\*(%\w+)', line)
+    if jump and not any(re.search(r'\tadd\s+%\w+,' + jump.group(1) + '$', last) for last in before):
         raise SystemExit(f'{name} jumps through a pointer: {line.strip()}')
 
 
 def functions(archive):
     text = subprocess.run(['objdump', '-dr', '--no-show-raw-insn', archive], capture_output=True, text=True, check=True).stdout
-    found, name, last = {}, None, ''
+    found, name, before = {}, None, ['']
     for line in text.split('\n'):
         head = re.match(r'[0-9a-f]+ <(.+)>:$', line)
         moved = re.search(r'R_X86_64_(?:PLT32|PC32)\s+(\S+?)(?:-0x[0-9a-f]+)?$', line)
         if head:
             name = head.group(1)
-            found[name] = Function()
-        elif moved and re.search(r'\t(call|jmp)\b', last):
-            kind = found[name].calls if '\tcall' in last else found[name].jumps
+            found[name], before = Function(), ['']
+        elif moved and re.search(r'\t(call|jmp)\b', before[-1]):
+            kind = found[name].calls if '\tcall' in before[-1] else found[name].jumps
             kind.add(moved.group(1).removeprefix('.text.'))
         elif '\t' in line and not moved:
-            read(line, last, found[name], name)
-            last = line
+            read(line, before, found[name], name)
+            before = before[-2:] + [line]
     return found
 
 

@@ -6,7 +6,8 @@
 changes specs/FILE.antt of a crate of definitions, one place at a time: each number by one; each comparison, connective, pollutant, constructor and letter to its
 neighbour. A definition is what a reader has to believe, so each change should break a worked case (proofs/*Cases*, Run) or at least a law. It lists each change
 whose first error is in no case, with the file of that error (files are checked in the order of their names, and cases are named to come before laws); the last
-line has the counts. It works on a copy of the repository, checks the crate once for each change, and is not part of the gate. The list has to be judged, since some changes have no effect (a default that is never read, the end of a range between two multiples of ten).
+line has the counts. It works on a copy of the repository, checks the crate once for each change, and is not part of the gate. The list has to be judged,
+since some changes have no effect (a default that is never read, the end of a range between two multiples of ten).
 It does not try changes of another shape: a condition left out, or one engine, reading or pollutant used in place of another.
 """
 import os
@@ -79,7 +80,7 @@ def main():
     crate, files = sys.argv[1], sys.argv[2:]
     copy = tempfile.mkdtemp()
     try:
-        shutil.copytree(ROOT, copy, dirs_exist_ok=True, ignore=shutil.ignore_patterns("must-fail", ".git", "cross", "target"))
+        shutil.copytree(ROOT, copy, dirs_exist_ok=True, ignore=shutil.ignore_patterns("must-fail", ".git", "cross", "target", "out"))
         told = write_edits(copy, crate, files)
         said = subprocess.run(["rt", "must-fail", crate], cwd=copy, stdout=subprocess.PIPE, stderr=subprocess.STDOUT, text=True).stdout
         loose = 0
