@@ -1,7 +1,7 @@
 -- What the definitions give if a call is accepted and if it is refused, and which calls are accepted.
 use mathlib.Core.Path.{◌≡◌, refl, ap, ◌∙◌}
 use mathlib.Core.Logic.{◌≢◌}
-use mathlib.Core.Bool.{Bool, true, false, cond, true≢false}
+use mathlib.Core.Bool.{Bool, true, false, true≢false}
 use mathlib.Core.List.{List}
 use Prim.Native.Nat.{ℕ, ◌*◌, ◌≤◌, ◌<◌}
 use lib.Dec.{eqb}
@@ -22,7 +22,7 @@ use Rattle.journal.proofs.Reading.{read-few}
 use Rattle.reference.specs.declared.Answer.TheVariants.{Accepted, Refused}
 use Rattle.reference.specs.Call.{Entry, Marks, ReadStatus, Write, Call, Enter, Ask, event_of, is_setup}
 use Rattle.reference.specs.Refusals.{refusals, refusal}
-use Rattle.reference.specs.Answers.{refusal_on, refusals_on, if_accepted, journal_after, no_status, status_of, answer, outcome_of, outcome}
+use Rattle.reference.specs.Answers.{refusal_on, refusals_on, if_accepted, journal_after, status_of, answer, outcome_of, outcome}
 use Rattle.reference.specs.Model.{accepted, step_model}
 use Rattle.reference.proofs.Stored.{stored-calls}
 use Rattle.reference.proofs.Validity.{not-refused, admitted}

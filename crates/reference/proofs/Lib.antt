@@ -12,3 +12,4 @@ pub mod Promises
 pub mod Demand2
 pub mod Deletion
 pub mod Demand3
+pub mod Refused

@@ -7,7 +7,6 @@ use lib.Dec.{eqb}
 use lib.ListN.{length}
 use borrow.Author.Tests.{eqb-true}
 use Rattle.year.specs.Replay.{replay}
-use Rattle.year.specs.Admissible.{valid}
 use Rattle.year.specs.Model.{Model, NoSetup, Year}
 use Rattle.year.proofs.Valid.{valid-next}
 use Rattle.journal.specs.Encode.{setup_version, version_in, raised}

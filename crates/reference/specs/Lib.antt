@@ -1,3 +1,4 @@
+pub mod Refused
 pub mod Call
 pub mod Refusals
 pub mod Answers

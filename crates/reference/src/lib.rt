@@ -1,7 +1,41 @@
 // What the public calls take and give back.
 #![tactic(auto)]
 
+ghost use Rattle.std.specs.Prelude.{◌≡◌};
+ghost use Rattle.reference.specs.Refused.{number_of};
+
 use year::{Pair, Status};
+
+// Why a call is refused, in the order of document 01's numbers, 1 to 16; 17 is of document 02, W-201. (1 and 2 are of the key line.)
+#[derive(Clone, Copy, Debug, PartialEq, Eq)]
+pub enum Refusal {
+    LineTooLong = 1,
+    LineForm,
+    JournalSize,
+    ProductionRange,
+    StandardRange,
+    FactorRange,
+    NotAJournal,
+    YearClosed,
+    EventsFull,
+    EngineNumber,
+    ReadingCount,
+    ReadingRange,
+    ResultRange,
+    EnginesFull,
+    NoNextPeriod,
+    OutputSize,
+    NothingToDelete,
+}
+
+impl Refusal {
+    // The number by which documents 01 and 02 know it.
+    pub fn number(self) -> u8
+        ensures { result ≡ number_of self }
+    {
+        self as u8
+    }
+}
 
 // An accepted setup, entry or status gives the status; a refused call gives the number of its refusal.
 #[derive(Clone, Copy)]
