@@ -10,11 +10,12 @@ use native.Mathlib.Omega.{arith}
 use lib.Dec.{eqb}
 use lib.ListN.{length, get_or, set, drop, length-set}
 use lib.Seq.{get_or-set_same, get_or-set_other}
-use Rattle.statistics.specs.Spread.{Test}
+use Rattle.statistics.specs.declared.Test.{Test}
 use Rattle.statistics.specs.Ranges.{TestsInRange}
 use Rattle.year.specs.declared.Pair.{Pair}
 use Rattle.year.specs.Setup.{Pollutant, Hcnox, Co}
-use Rattle.year.specs.Replay.{Tested, history, is_tested}
+use Rattle.year.specs.Replay.{history, is_tested}
+use Rattle.year.specs.declared.Tested.{Tested}
 use Rattle.figures.specs.declared.Running.{Running}
 use Rattle.figures.specs.Running.{running, RunningInRange}
 use Rattle.engines.specs.declared.Engines.{Engines}
@@ -45,12 +46,12 @@ joined : {x y : Tested} {xs ys : List Tested} → x ≡ y → xs ≡ ys → x �
 joined p q = rw (p, q)
 
 -- each number of a new engine is small enough for its array
-pub narrow : {e : Engines} {n d : ℕ} {xs ts : Pair} → EngineInRange e n xs ts d
+pub narrow : {e : Engines} {n d : ℕ} {xs ts : Pair ℕ} → EngineInRange e n xs ts d
     → (e.count < 40) × (n ≤ 65535) × (d ≤ 4) × (xs.hcnox ≤ 20000) × (xs.co ≤ 20000) × (ts.hcnox ≤ 20000) × (ts.co ≤ 20000)
 narrow r = (r.place, r.number, r.period, r.results Hcnox, r.results Co, r.standards Hcnox, r.standards Co)
 
 -- one more engine, stored at the next place: the engines before it are kept
-module _ (e : Engines) (number period : ℕ) (results standards : Pair) where
+module _ (e : Engines) (number period : ℕ) (results standards : Pair ℕ) where
   abbrev pub with-engine : Engines
   with-engine =
       record {

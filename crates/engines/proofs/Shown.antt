@@ -4,8 +4,8 @@ use mathlib.Core.List.{List, [], ◌∷◌}
 use Prim.Native.Nat.{ℕ}
 use native.Mathlib.Nat.{add-zero}
 use native.Mathlib.Omega.{arith}
-use Rattle.statistics.specs.declared.SampleSize.{SampleSize}
-use Rattle.statistics.specs.Spread.{Test}
+use Rattle.std.specs.Prelude.{Option}
+use Rattle.statistics.specs.declared.Test.{Test}
 use Rattle.statistics.proofs.Deviations.{deviation-early}
 use Rattle.statistics.specs.SampleSize.{sample_size, sample_size_of, size_reached, size_reached_of}
 use Rattle.year.specs.Status.{figures}
@@ -18,7 +18,7 @@ module _ (k : ℕ) (f : Running) where
   size-shown [] e = rw e
   size-shown (x ∷ h) e = rw e
 
-  pub shown : (h : List Test) (size : SampleSize) → f ≡ running k h
+  pub shown : (h : List Test) (size : Option ℕ) → f ≡ running k h
       → record {
         sum = f.sums.total;
         deviation = f.deviation;

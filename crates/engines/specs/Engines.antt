@@ -1,10 +1,11 @@
 -- What the arrays of tested engines represent in the definitions: the list of tested engines, the newest first.
 use Rattle.std.specs.Prelude.{List, [], ◌∷◌, ℕ, zero, suc, ◌≤◌, ◌<◌, get_or}
-use Rattle.statistics.specs.Spread.{Test}
+use Rattle.statistics.specs.declared.Test.{Test}
 use Rattle.statistics.specs.Ranges.{HistoryInRange}
 use Rattle.year.specs.declared.Pair.{Pair}
 use Rattle.year.specs.Setup.{Pollutant, Hcnox, Co, of}
-use Rattle.year.specs.Replay.{Tested, history}
+use Rattle.year.specs.Replay.{history}
+use Rattle.year.specs.declared.Tested.{Tested}
 use Rattle.engines.specs.declared.Engines.{Engines}
 
 -- a pollutant's arrays
@@ -40,7 +41,7 @@ tests_to results standards zero = []
 tests_to results standards (suc i) = record { result = get_or results i 0; standard = get_or standards i 0 } ∷ tests_to results standards i
 
 -- for adding an engine: there is room, and each number fits its array
-pub record EngineInRange (e : Engines) (n : ℕ) (xs ts : Pair) (d : ℕ) : Type 0 where
+pub record EngineInRange (e : Engines) (n : ℕ) (xs ts : Pair ℕ) (d : ℕ) : Type 0 where
   pub place : e.count < 40
   pub number : n ≤ 65535
   pub results : (q : Pollutant) → of q xs ≤ 20000

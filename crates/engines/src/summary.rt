@@ -1,6 +1,6 @@
 // The figures of one pollutant as status shows them, and its stop test.
 ghost use Rattle.std.specs.Prelude.{◌≡◌, List, ℕ};
-ghost use Rattle.statistics.specs.Spread.{Test};
+ghost use Rattle.statistics.specs.declared.Test.{Test};
 ghost use Rattle.statistics.specs.SampleSize.{sample_size_of, size_reached_of};
 ghost use Rattle.year.specs.Status.{figures};
 ghost use Rattle.figures.specs.Running.{running, Worked};

@@ -1,9 +1,8 @@
 -- Worked cases of an answer as numbers: the status after document 01's second engine ("Cases on the edges"; the whole run), and that of a refusal; and of the
 -- exported functions, at the slice sizes that include/plt.h names.
-use Rattle.std.specs.Prelude.{◌≡◌, [], ◌∷◌, ◌++◌, replicate}
+use Rattle.std.specs.Prelude.{◌≡◌, [], ◌∷◌, ◌++◌, replicate, Some}
 use Rattle.buffers.specs.Bytes.{zeros}
 use Rattle.ascii.specs.Text.{byte, text}
-use Rattle.statistics.specs.declared.SampleSize.TheVariants.{Tenths}
 use Rattle.cumsum.specs.declared.Mark.TheVariants.{Under, Undecided}
 use Rattle.year.specs.declared.Status.{Status}
 use Rattle.year.specs.declared.Event.TheVariants.{Declaration}
@@ -26,7 +25,7 @@ second =
         deviation = record { floor = 52857; inexact = 1 };
         cumsum = record { low = 1057158; high = 1057159 };
         limit = record { low = 1057140; high = 1057160 };
-        size = Tenths 30;
+        size = Some 30;
         mark = Undecided;
       };
       co = record {
@@ -34,7 +33,7 @@ second =
         deviation = record { floor = 0; inexact = 0 };
         cumsum = record { low = 0; high = 0 };
         limit = record { low = 0; high = 0 };
-        size = Tenths 10;
+        size = Some 10;
         mark = Under;
       };
     }

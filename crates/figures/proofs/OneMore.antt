@@ -8,7 +8,8 @@ use native.Mathlib.Omega.{arith}
 use lib.ListN.{length}
 use Rattle.spread.specs.declared.Sums.{Sums}
 use Rattle.statistics.specs.declared.Deviation.{Deviation}
-use Rattle.statistics.specs.Spread.{Test, deviation}
+use Rattle.statistics.specs.Spread.{deviation}
+use Rattle.statistics.specs.declared.Test.{Test}
 use Rattle.spread.specs.Sums.{sums}
 use Rattle.statistics.specs.Ranges.{TestsInRange, HistoryInRange}
 use Rattle.spread.specs.Ranges.{SumsInRange, DeviationInRange}

@@ -8,7 +8,8 @@ use borrow.Author.Count.{below_more}
 use lib.ListN.{length, get_or, set, length-set}
 use lib.Seq.{get_or-set_same, get_or-set_other}
 use Rattle.statistics.specs.declared.Deviation.{Deviation}
-use Rattle.statistics.specs.Spread.{Test, deviation}
+use Rattle.statistics.specs.Spread.{deviation}
+use Rattle.statistics.specs.declared.Test.{Test}
 use Rattle.spread.specs.declared.Sums.{Sums}
 use Rattle.spread.specs.Sums.{sums}
 use Rattle.spread.specs.Ranges.{SumsInRange, DeviationInRange}

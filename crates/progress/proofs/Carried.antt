@@ -9,7 +9,8 @@ use Rattle.cumsum.specs.Marks.{marks, failed, undecided}
 use Rattle.year.specs.declared.Pair.{Pair}
 use Rattle.year.specs.declared.Event.TheVariants.{Engine, Deletion}
 use Rattle.year.specs.Setup.{Pollutant, Hcnox, Co, of}
-use Rattle.year.specs.Replay.{Tested, history, tested_in, newest_in}
+use Rattle.year.specs.Replay.{history, tested_in, newest_in}
+use Rattle.year.specs.declared.Tested.{Tested}
 use Rattle.year.specs.Admissible.{admissible}
 use Rattle.year.proofs.Replayed.{history-length}
 use Rattle.year.proofs.Ranges.{standard-le, tested-in-le, fitting, admitted-engine, after-in-range}
@@ -27,7 +28,7 @@ figures_of Hcnox p = p.hcnox
 figures_of Co p = p.co
 
 -- there is room for an engine: its place and numbers fit the arrays, the current period can count one more, and its results fit the figures
-pub record Room (p : State) (number : ℕ) (results : Pair) : Type 0 where
+pub record Room (p : State) (number : ℕ) (results : Pair ℕ) : Type 0 where
   pub engine : EngineInRange p.engines number results p.standards p.period
   pub current : p.current ≤ 40
   pub figures : (q : Pollutant) → RunningInRange 1024 (figures_of q p) (of q results)
@@ -68,7 +69,7 @@ module _ (p : State) (c : Consistent p) where
     undecided-is = ap (λ (g : Running). g.undecided) e
 
   -- there is room for an engine that could be entered
-  pub room : (number readings : ℕ) (results : Pair) → admissible (progress_of p) (Engine number readings results) ≡ true → Room p number results
+  pub room : (number readings : ℕ) (results : Pair ℕ) → admissible (progress_of p) (Engine number readings results) ≡ true → Room p number results
   room number readings results h =
       let a = admitted-engine (progress_of p) number readings results h in
       let place : p.engines.count < 40 = omega (arith, a.room, counted) in

@@ -6,7 +6,7 @@ use Prim.Native.Nat.{ℕ, ◌+◌, ◌-◌}
 use native.Mathlib.Omega.{arith}
 use lib.ListN.{drop}
 use borrow.Author.Tests.{eq-eqb}
-use Rattle.statistics.specs.Spread.{Test}
+use Rattle.statistics.specs.declared.Test.{Test}
 use Rattle.year.specs.declared.Pair.{Pair}
 use Rattle.year.specs.declared.Event.{Event}
 use Rattle.year.specs.declared.Event.TheVariants.{Engine, Amendment, NextPeriod, Declaration, Deletion}
@@ -27,7 +27,7 @@ abbrev pub Represents : State → Progress → Type 0
 Represents p y = (progress_of p ≡ y) × Consistent p
 
 -- a state with one more event that leaves the engines
-abbrev changed : State → Pair → ℕ → Bool → ℕ → State
+abbrev changed : State → Pair ℕ → ℕ → Bool → ℕ → State
 changed p standards period declared current =
     record {
       setup = p.setup;
@@ -62,7 +62,7 @@ module _ (p : State) (c : Consistent p) where
       → s.current ≡ tested_in s.period (tested s.engines) → Figured 1024 s.engines s.hcnox s.co → Represents s (after e (progress_of p))
   stepped e a s is n f = (is, record { in_range = subst InRange (sym is) (after-in-range e (progress_of p) c.in_range a); current = n; figures = f })
 
-  pub amended : (t : Pair) → admissible (progress_of p) (Amendment t) ≡ true
+  pub amended : (t : Pair ℕ) → admissible (progress_of p) (Amendment t) ≡ true
       → Represents (changed p t p.period p.declared p.current) (after (Amendment t) (progress_of p))
   amended t a = stepped (Amendment t) a _ refl c.current c.figures
 
@@ -80,7 +80,7 @@ module _ (p : State) (c : Consistent p) where
       stepped Deletion a _ (rw te) (rw te (omega (arith, fewer, c.current))) f
 
   -- one more engine: it is among the tested, and its results are added to the figures
-  pub engine : (number readings : ℕ) (results : Pair) (e : Engines) (h o : Running)
+  pub engine : (number readings : ℕ) (results : Pair ℕ) (e : Engines) (h o : Running)
       → admissible (progress_of p) (Engine number readings results) ≡ true
       → tested e ≡ record { number = number; results = results; standards = p.standards; period = p.period } ∷ tested p.engines
       → ((xs : List Test) → p.hcnox ≡ running 1024 xs → h ≡ running 1024 (record { result = results.hcnox; standard = p.standards.hcnox } ∷ xs))

@@ -13,8 +13,7 @@ use Rattle.statistics.specs.SampleSize.{t95, sample_size, size_reached, rounded_
 use Rattle.statistics.specs.Cases.{exactly}
 use Rattle.statistics.proofs.Cases as statistics
 use Rattle.statistics.proofs.Deviations.{deviation-unique, deviation-none}
-use Rattle.statistics.specs.declared.SampleSize.{SampleSize}
-use Rattle.statistics.specs.declared.SampleSize.TheVariants.{Tenths, Absent}
+use Rattle.std.specs.Prelude.{Option, Some, None}
 use Rattle.cumsum.specs.declared.Mark.{Mark}
 use Rattle.cumsum.specs.declared.Mark.TheVariants.{Unmarked, Under, Undecided}
 use Rattle.cumsum.specs.Marks.{compared, failed, undecided}
@@ -107,17 +106,17 @@ unfolding can_hold
 stored-declared = stored declared refl refl refl valid-declared
 
 -- the reply that shows n, a verdict, marks and sample sizes
-abbrev shown : ℕ → ℕ → Mark → Mark → SampleSize → SampleSize → List ℕ
+abbrev shown : ℕ → ℕ → Mark → Mark → Option ℕ → Option ℕ → List ℕ
 shown n v a b size_a size_b = status_reply (record { n = n; verdict = v; hcnox = marked a size_a; co = marked b size_b })
 
 -- what each line does
 record Lines : Type 0 where
-  pub line1 : Does (text "S 5000 365 800 6100 0 0 0 0") (zeros 544) (shown 0 0 Unmarked Unmarked Absent Absent) (holding [])
-  pub line2 : Does (text "E 1 998000 5000000") (holding []) (shown 1 0 Unmarked Unmarked Absent Absent) (holding one)
-  pub line3 : Does (text "E 2 1071000 5000000") (holding one) (shown 2 1 Undecided Under (Tenths 30) (Tenths 10)) (holding two)
-  pub line4 : Does (text "E 3 900000 5000000") (holding two) (shown 3 1 Under Under (Tenths 28) (Tenths 10)) (holding three)
+  pub line1 : Does (text "S 5000 365 800 6100 0 0 0 0") (zeros 544) (shown 0 0 Unmarked Unmarked None None) (holding [])
+  pub line2 : Does (text "E 1 998000 5000000") (holding []) (shown 1 0 Unmarked Unmarked None None) (holding one)
+  pub line3 : Does (text "E 2 1071000 5000000") (holding one) (shown 2 1 Undecided Under (Some 30) (Some 10)) (holding two)
+  pub line4 : Does (text "E 3 900000 5000000") (holding two) (shown 3 1 Under Under (Some 28) (Some 10)) (holding three)
   pub line5 : Does (text "L") (holding three) (text "OK --?UUU") (holding three)
-  pub line6 : Does (text "X") (holding three) (shown 3 7 Under Under (Tenths 28) (Tenths 10)) (holding declared)
+  pub line6 : Does (text "X") (holding three) (shown 3 7 Under Under (Some 28) (Some 10)) (holding declared)
   pub line7 : Does (text "E 4 1 1") (holding declared) (refusal_reply 8) (holding declared)
 
 lines : Lines

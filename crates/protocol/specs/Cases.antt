@@ -1,8 +1,6 @@
 -- Worked cases of the key line, and document 01's whole run.
-use Rattle.std.specs.Prelude.{◌≡◌, [], ◌∷◌, ◌++◌, replicate}
+use Rattle.std.specs.Prelude.{◌≡◌, [], ◌∷◌, ◌++◌, replicate, Option, Some, None}
 use Rattle.ascii.specs.Text.{byte, text}
-use Rattle.statistics.specs.declared.SampleSize.{SampleSize}
-use Rattle.statistics.specs.declared.SampleSize.TheVariants.{Tenths, Absent}
 use Rattle.cumsum.specs.declared.Mark.{Mark}
 use Rattle.cumsum.specs.declared.Mark.TheVariants.{Under, Undecided}
 use Rattle.year.specs.declared.Figures.{Figures}
@@ -16,7 +14,7 @@ use Rattle.ascii.specs.Decimal.{decimal}
 use Rattle.protocol.specs.Run.{lines_of, run}
 
 -- figures for a reply, which shows only their mark and sample size
-abbrev pub marked : Mark → SampleSize → Figures
+abbrev pub marked : Mark → Option ℕ → Figures
 marked mark size =
     record {
       sum = 0;
@@ -99,7 +97,7 @@ pub record Cases : Type 0 where
   pub four_digits : decimal 1234 ≡ text "1234"
   pub refused_by_16 : refusal_reply 16 ≡ text "NO 16"
   pub no_marks : marks_reply [] ≡ text "OK"
-  pub two_tested : status_reply (record { n = 2; verdict = 1; hcnox = marked Undecided (Tenths 30); co = marked Under Absent }) ≡ text "OK 2 1 ?U 30 -"
+  pub two_tested : status_reply (record { n = 2; verdict = 1; hcnox = marked Undecided (Some 30); co = marked Under None }) ≡ text "OK 2 1 ?U 30 -"
   -- a line that is too long "is dropped up to its newline": 70 bytes, and then a declaration, on a journal that is all zero
   pub long_line : run (replicate 70 (byte "X") ++ text "\nX\n") ≡ text "NO 1\nNO 7\n"
   -- document 01, "Input and print of a whole run"

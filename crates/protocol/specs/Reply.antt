@@ -1,9 +1,7 @@
 -- Document 01, "Key line": the reply to a line, and the journal after it.
-use Rattle.std.specs.Prelude.{List, [], ◌∷◌, ◌++◌, ℕ}
+use Rattle.std.specs.Prelude.{List, [], ◌∷◌, ◌++◌, ℕ, Option, Some, None}
 use Rattle.ascii.specs.Text.{byte, text}
 use Rattle.ascii.specs.Decimal.{decimal}
-use Rattle.statistics.specs.declared.SampleSize.{SampleSize}
-use Rattle.statistics.specs.declared.SampleSize.TheVariants.{Tenths, Absent}
 use Rattle.cumsum.specs.Marks.{mark_byte}
 use Rattle.year.specs.declared.Status.{Status}
 use Rattle.journal.specs.Read.{read_journal}
@@ -30,9 +28,9 @@ abbrev pub out_reply : Form → List ℕ → List ℕ
 out_reply Marks bytes = marks_reply bytes
 
 -- "N in tenths for each pollutant ('-' for none)"
-abbrev pub size_text : SampleSize → List ℕ
-size_text (Tenths tenths) = decimal tenths
-size_text Absent = text "-"
+abbrev pub size_text : Option ℕ → List ℕ
+size_text (Some tenths) = decimal tenths
+size_text None = text "-"
 
 -- ""OK", n, verdict, the two last marks joined, N in tenths for each pollutant .., with single spaces"
 abbrev pub status_reply : Status → List ℕ

@@ -10,9 +10,9 @@ use lib.ListN.{length, take}
 use Rattle.buffers.specs.Bytes.{put}
 use Rattle.buffers.proofs.Lists.{take_put}
 use Rattle.conditions.proofs.Rows.{first-is, none_is}
-use Rattle.statistics.specs.Spread.{Test, total, deviation_of}
-use Rattle.statistics.specs.declared.SampleSize.{SampleSize}
-use Rattle.statistics.specs.declared.SampleSize.TheVariants.{Absent}
+use Rattle.statistics.specs.Spread.{total, deviation_of}
+use Rattle.statistics.specs.declared.Test.{Test}
+use Rattle.std.specs.Prelude.{Option, None}
 use Rattle.statistics.specs.SampleSize.{sample_size, sample_size_of}
 use Rattle.cumsum.specs.Intervals.{cumsum, action_limit}
 use Rattle.cumsum.specs.Marks.{mark}
@@ -38,7 +38,7 @@ use Rattle.reference.proofs.Demand1.{demand-1}
 
 -- ---- the figures of one pollutant
 
-module _ (size : SampleSize) where
+module _ (size : Option ℕ) where
   sum_is : (h : List Test) → (figures 1024 size h).sum ≡ total h
   sum_is [] = refl
   sum_is (x ∷ []) = sym (add-zero x.result)
@@ -63,7 +63,7 @@ module _ (size : SampleSize) where
   before-two (x ∷ y ∷ h) l = absurd (omega arith)
 
 -- there is no N before engine 2
-no_size : (h : List Test) → length h < 2 → sample_size_of h ≡ Absent
+no_size : (h : List Test) → length h < 2 → sample_size_of h ≡ None
 unfolding sample_size
 no_size [] l = refl
 no_size (x ∷ []) l = refl

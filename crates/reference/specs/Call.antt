@@ -45,7 +45,7 @@ pub data Call : Type 0 where
   Ask : Query → Call
 
 -- the results computed from an engine's readings
-abbrev pub results_of : Setup → Readings → Pair
+abbrev pub results_of : Setup → Readings → Pair ℕ
 results_of s readings =
     record { hcnox = result_of (factor_of Hcnox s) readings.hcnox; co = result_of (factor_of Co s) readings.co }
 
@@ -97,7 +97,7 @@ abbrev pub of_change : (Change → Bool) → Entry → Bool
 of_change test (EnterEngine number readings) = false
 of_change test (EnterChange change) = test change
 
-abbrev pub of_amendment : (Pair → Bool) → Change → Bool
+abbrev pub of_amendment : (Pair ℕ → Bool) → Change → Bool
 of_amendment test (Amend standards) = test standards
 of_amendment test BeginPeriod = false
 of_amendment test Declare = false

@@ -22,7 +22,7 @@ use Rattle.reference.specs.Answers.{no_status, status_of, answer, journal_after,
 use Rattle.reference.specs.Model.{model_of, journal_of, setup_accepted}
 
 -- a setup with this volume, these standards and this HC+NOx factor
-abbrev pub setup_with : ℕ → Pair → Factor → Setup
+abbrev pub setup_with : ℕ → Pair ℕ → Factor → Setup
 setup_with volume standards factor =
     record { volume = volume; days = 365; standards = standards; factors = record { hcnox = factor; co = no_factor } }
 

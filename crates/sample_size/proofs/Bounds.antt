@@ -2,7 +2,8 @@
 use mathlib.Core.List.{List}
 use Prim.Native.Nat.{ℕ, ◌≤◌}
 use lib.ListN.{length}
-use Rattle.statistics.specs.Spread.{Test, total, variation}
+use Rattle.statistics.specs.Spread.{total, variation}
+use Rattle.statistics.specs.declared.Test.{Test}
 use Rattle.statistics.specs.Ranges.{HistoryInRange}
 use Rattle.statistics.proofs.Bounds.{total-le, variation-le}
 use Rattle.sample_size.specs.Ranges.{SizeInRange}

@@ -2,24 +2,25 @@
 use mathlib.Core.Path.{◌≡◌, sym, ap, ◌∙◌}
 use mathlib.Core.Bool.{false, and-true, and-false}
 use mathlib.Core.Logic.{⊎_elim}
-use Prim.Native.Nat.{ℕ, ◌+◌, ◌-◌, ◌*◌, ◌/◌, ◌≤◌, ◌<◌}
+use Prim.Native.Nat.{ℕ, zero, suc, ◌+◌, ◌-◌, ◌*◌, ◌/◌, ◌%◌, ◌≤◌, ◌<◌}
 use native.Mathlib.Nat.{eq-or-lt_of_le, mul-le-mul, mul-pos, div-add-mod, mod-lt, div-eq_of_lt-le, div-lt_iff_lt-mul, le-div_iff_mul-le}
 use native.Mathlib.Omega.{arith}
 use native.Mathlib.Decide.{dec_lt}
 use lib.Dec.{ltb}
 use borrow.Author.Tests.{lt-ltb, le-ltb, le-leb, lt-leb, eq-eqb, ne_eqb}
+use Rattle.std.specs.Prelude.{min, Some, None}
 use Rattle.conditions.specs.Ranges.{distance}
-use Rattle.statistics.specs.declared.SampleSize.TheVariants.{Tenths, Absent}
 use Rattle.statistics.specs.SampleSize.{t95, denominator, numerator, rounded_up, sample_size, size_reached}
 use Rattle.statistics.proofs.Coefficients.{t95-le}
 
 -- N in tenths, where w is a ten-thousandth of the denominator and a the numerator of N − 1
-tenths : (w a : ℕ) → 1 ≤ w → rounded_up (10 * (10000 * w + a)) (10000 * w) ≡ 10 + (a + (1000 * w - 1)) / (1000 * w)
+tenths : (w a : ℕ) → 1 ≤ w → rounded_up (10 * (10000 * w + a)) (10000 * w) ≡ 10 + (a / (1000 * w) + min 1 (a % (1000 * w)))
 unfolding rounded_up
-tenths w a h = at ((a + (1000 * w - 1)) / (1000 * w)) (div-add-mod (a + (1000 * w - 1)) (1000 * w)) (mod-lt (a + (1000 * w - 1)) (omega arith))
+tenths w a h = at (a / (1000 * w)) (a % (1000 * w)) (div-add-mod a (1000 * w)) (mod-lt a (omega arith))
   where
-    at : (q : ℕ) {m : ℕ} → 1000 * w * q + m ≡ a + (1000 * w - 1) → m < 1000 * w → (10 * (10000 * w + a) + (10000 * w - 1)) / (10000 * w) ≡ 10 + q
-    at q e l = div-eq_of_lt-le (10000 * w) (omega arith) (omega arith)
+    at : (q m : ℕ) → 1000 * w * q + m ≡ a → m < 1000 * w → (10 * (10000 * w + a) + (10000 * w - 1)) / (10000 * w) ≡ 10 + (q + min 1 m)
+    at q zero e l = div-eq_of_lt-le (10000 * w) (omega arith) (omega arith)
+    at q (suc m) e l = let one : min 1 (suc m) ≡ 1 = omega arith in rw one (div-eq_of_lt-le (10000 * w) (omega arith) (omega arith))
 
 -- d + a < (m + 1) × d exactly if the whole part of a / d is below m
 quotient-test : (m d a : ℕ) → 1 ≤ d → ltb (d + a) ((m + 1) * d) ≡ ltb (a / d) m
@@ -34,21 +35,21 @@ pub denominator-pos : (n g : ℕ) → 2 ≤ n → 1 ≤ g → 1 ≤ (n - 1) * (g
 denominator-pos n g h k = mul-pos (omega arith) (mul-pos k k)
 
 module _ (n s t v : ℕ) where
-  pub absent-few : n < 2 → Absent ≡ sample_size n s t v
+  pub absent-few : n < 2 → None ≡ sample_size n s t v
   unfolding sample_size
   absent-few h = simp (lt-leb 2 n h)
 
-  pub absent-even : 2 ≤ n → s ≡ n * t → Absent ≡ sample_size n s t v
+  pub absent-even : 2 ≤ n → s ≡ n * t → None ≡ sample_size n s t v
   unfolding sample_size
   absent-even h e = simp (le-leb _ _ h, eq-eqb _ _ e)
 
-  present : 2 ≤ n → (s ≡ n * t → ⊥) → Tenths (rounded_up (10 * numerator n s t v) (denominator n s t)) ≡ sample_size n s t v
+  present : 2 ≤ n → (s ≡ n * t → ⊥) → Some (rounded_up (10 * numerator n s t v) (denominator n s t)) ≡ sample_size n s t v
   unfolding sample_size
   present h f = simp (le-leb _ _ h, ne_eqb _ _ f)
 
   pub in-tenths : (w a : ℕ) → 2 ≤ n → (s ≡ n * t → ⊥) → w ≡ (n - 1) * (distance s (n * t) * distance s (n * t)) → a ≡ t95 n * t95 n * v * n
-      → Tenths (10 + (a + (1000 * w - 1)) / (1000 * w)) ≡ sample_size n s t v
-  in-tenths w a h f ew ea = rw (ew, ea) (ap Tenths (sym (tenths _ _ (denominator-pos n (distance s (n * t)) h (omega arith)))) ∙ present h f)
+      → Some (10 + (a / (1000 * w) + min 1 (a % (1000 * w)))) ≡ sample_size n s t v
+  in-tenths w a h f ew ea = rw (ew, ea) (ap (λ (tenths : ℕ). Some tenths) (sym (tenths _ _ (denominator-pos n (distance s (n * t)) h (omega arith)))) ∙ present h f)
 
   pub not-few : n < 2 → false ≡ size_reached n s t v
   unfolding size_reached

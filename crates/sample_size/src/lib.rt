@@ -5,19 +5,11 @@
 mod coefficient;
 
 ghost use Rattle.std.specs.Prelude.{◌≡◌, ◌-◌, ◌*◌, ◌≤◌};
-ghost use Rattle.conditions.specs.Ranges.{distance};
 ghost use Rattle.statistics.specs.SampleSize.{t95, sample_size, size_reached};
 ghost use Rattle.sample_size.specs.Ranges.{SizeInRange};
 
 use crate::coefficient::t95;
-use statistics::SampleSize;
-
-// How far apart two numbers are.
-fn distance(a: u64, b: u64) -> u64
-    ensures { result ≡ distance a b }
-{
-    if a < b { b - a } else { a - b }
-}
+use spread::Sums;
 
 // The numerator of N − 1: t95² × V × n.
 #[tactic(auto, using(crate::proofs::Sizes::numerator_fits))]
@@ -37,37 +29,39 @@ fn denominator(n: u64, g: u64) -> u64
     (n - 1) * (g * g)
 }
 
-// N in tenths, rounded up, for n engines with sum S and variation V, the newest under `standard`.
+// N in tenths, rounded up, if there is one, for engines with these sums, the newest under `standard`.
 #[tactic(auto, using(crate::proofs::Sizes::sizes))]
-pub fn sample_size_of(n: u64, sum: u64, standard: u64, variation: u64) -> SampleSize
-    requires { SizeInRange n sum standard variation }
-    ensures { result ≡ sample_size n sum standard variation }
+pub fn sample_size_of(sums: Sums, standard: u64) -> Option<u64>
+    requires { SizeInRange sums.n sums.total standard sums.variation }
+    ensures { result ≡ sample_size sums.n sums.total standard sums.variation }
 {
+    let n = sums.n;
     let target = n * standard;
     if n < 2 {
-        return SampleSize::Absent;
+        return None;
     }
-    if sum == target {
-        return SampleSize::Absent;
+    if sums.total == target {
+        return None;
     }
-    let tenth = 1000 * denominator(n, distance(sum, target));
-    let above = numerator(n, variation);
-    SampleSize::Tenths(10 + (above + (tenth - 1)) / tenth)
+    let tenth = 1000 * denominator(n, sums.total.abs_diff(target));
+    let above = numerator(n, sums.variation);
+    Some(10 + above.div_ceil(tenth))
 }
 
 // N exists, n > N and G ≤ 0. N − 1 is below n − 1 exactly if its integer part is, so no product with n is needed.
 #[tactic(auto, using(crate::proofs::Sizes::stops))]
-pub fn size_reached(n: u64, sum: u64, standard: u64, variation: u64) -> bool
-    requires { SizeInRange n sum standard variation }
-    ensures { result ≡ size_reached n sum standard variation }
+pub fn size_reached(sums: Sums, standard: u64) -> bool
+    requires { SizeInRange sums.n sums.total standard sums.variation }
+    ensures { result ≡ size_reached sums.n sums.total standard sums.variation }
 {
+    let n = sums.n;
     let target = n * standard;
     if n < 2 {
         return false;
     }
-    if target <= sum {
+    if target <= sums.total {
         return false;
     }
-    let below = 10000 * denominator(n, target - sum);
-    numerator(n, variation) / below < n - 1
+    let below = 10000 * denominator(n, target - sums.total);
+    numerator(n, sums.variation) / below < n - 1
 }

@@ -74,10 +74,10 @@ passed : (p : State) (slot : Bool) {fits : Bool} {e f : Event} → fits ≡ admi
 passed p slot {fits} hf t is = rw (← is) (sym hf ∙ ((and-eq-true_iff slot fits).0 (sym t)).1)
 
 module _ (slot : Bool) {fits : Bool} {p : State} {e : Event} (w : Consistent p) (hf : fits ≡ admissible (progress_of p) e) (t : true ≡ (slot && fits)) where
-  pub fit : {number readings : ℕ} {results : Pair} → e ≡ Engine number readings results → Room p number results
+  pub fit : {number readings : ℕ} {results : Pair ℕ} → e ≡ Engine number readings results → Room p number results
   fit {number} {readings} {results} is = room p w number readings results (passed p slot hf t is)
 
-  pub small : {number readings : ℕ} {results : Pair} → e ≡ Engine number readings results
+  pub small : {number readings : ℕ} {results : Pair ℕ} → e ≡ Engine number readings results
       → (p.engines.count < 40) × (number ≤ 65535) × (p.period ≤ 4) × (results.hcnox ≤ 20000) × (results.co ≤ 20000) × (p.standards.hcnox ≤ 20000)
       × (p.standards.co ≤ 20000)
   small is = narrow (fit is).engine

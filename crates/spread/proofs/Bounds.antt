@@ -2,7 +2,8 @@
 use mathlib.Core.List.{List}
 use Prim.Native.Nat.{ℕ, ◌≤◌}
 use lib.ListN.{length}
-use Rattle.statistics.specs.Spread.{Test, variation}
+use Rattle.statistics.specs.Spread.{variation}
+use Rattle.statistics.specs.declared.Test.{Test}
 use Rattle.statistics.specs.Ranges.{HistoryInRange}
 use Rattle.statistics.proofs.Bounds.{variation-le}
 use Rattle.spread.specs.Ranges.{DeviationInRange}

@@ -6,7 +6,8 @@ use native.Mathlib.Nat.{mul-le-mul}
 use native.Mathlib.Omega.{arith}
 use lib.ListN.{length}
 use Rattle.spread.specs.declared.Sums.{Sums}
-use Rattle.statistics.specs.Spread.{Test, squares as squares_of, variation}
+use Rattle.statistics.specs.Spread.{squares as squares_of, variation}
+use Rattle.statistics.specs.declared.Test.{Test}
 use Rattle.spread.specs.Sums.{sums}
 use Rattle.statistics.specs.Ranges.{HistoryInRange}
 use Rattle.spread.specs.Ranges.{SumsInRange}

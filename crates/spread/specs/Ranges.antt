@@ -1,7 +1,7 @@
 -- The ranges that the code of this crate requires. Every history in range meets those of a deviation (`proofs/Bounds.antt`), and the figures of every history
 -- of at most 39 engines in range meet those of adding an engine (`sums-in-range` of the crate figures).
 use Rattle.std.specs.Prelude.{◌≡◌, List, ℕ, ◌*◌, ◌≤◌}
-use Rattle.statistics.specs.Spread.{Test}
+use Rattle.statistics.specs.declared.Test.{Test}
 use Rattle.statistics.specs.Ranges.{HistoryInRange}
 use Rattle.spread.specs.declared.Sums.{Sums}
 use Rattle.spread.specs.Sums.{sums}

@@ -14,7 +14,8 @@ use Rattle.cumsum.proofs.Patterns.{or_map, or-exchange, failed-stays, undecided-
 use Rattle.year.specs.declared.Setup.{Setup}
 use Rattle.year.specs.declared.Event.{Event}
 use Rattle.year.specs.Setup.{Pollutant, some, judged}
-use Rattle.year.specs.Replay.{Tested, Progress, replay, history}
+use Rattle.year.specs.Replay.{Progress, replay, history}
+use Rattle.year.specs.declared.Tested.{Tested}
 use Rattle.year.specs.Verdict.{verdict}
 use Rattle.year.specs.Status.{newest_marks, printed_marks}
 use Rattle.year.proofs.Replayed.{history-length}

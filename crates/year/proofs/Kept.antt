@@ -9,11 +9,12 @@ use Rattle.cumsum.specs.Marks.{mark}
 use Rattle.year.specs.declared.Pair.{Pair}
 use Rattle.year.specs.declared.Event.TheVariants.{Amendment}
 use Rattle.year.specs.Setup.{Pollutant}
-use Rattle.year.specs.Replay.{Tested, Progress, after, history}
+use Rattle.year.specs.Replay.{Progress, after, history}
+use Rattle.year.specs.declared.Tested.{Tested}
 use Rattle.year.specs.Verdict.{verdict}
 use Rattle.year.specs.Status.{status, newest_marks, printed_marks, year_marks}
 
-module _ (k : ℕ) (standards : Pair) (p : Progress) where
+module _ (k : ℕ) (standards : Pair ℕ) (p : Progress) where
   pub amended-status : status k (after (Amendment standards) p) ≡ status k p
   unfolding verdict
   amended-status = refl

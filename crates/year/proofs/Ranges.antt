@@ -18,7 +18,8 @@ use Rattle.year.specs.declared.Event.{Event}
 use Rattle.year.specs.declared.Event.TheVariants.{Engine, Amendment, NextPeriod, Declaration, Deletion}
 use Rattle.year.specs.Setup.{Pollutant, Hcnox, Co, of, production_in_range, standard_in_range, standards_in_range, factors_in_range, setup_in_range}
 use Rattle.year.specs.Periods.{periods}
-use Rattle.year.specs.Replay.{Tested, Progress, start, after, replay, history, tested_in, short, is_tested}
+use Rattle.year.specs.Replay.{Progress, start, after, replay, history, tested_in, short, is_tested}
+use Rattle.year.specs.declared.Tested.{Tested}
 use Rattle.year.specs.Admissible.{closed, events_full, engines_full, number_in_range, results_in_range, last_period, fits, admissible, valid}
 use Rattle.year.specs.Ranges.{PeriodsUpTo, InRange}
 use Rattle.year.proofs.Valid.{valid-before, valid-newest}
@@ -48,7 +49,7 @@ conjuncts a b c d e h =
     let z = (and-eq-true_iff a b).0 y.0 in
     (z.0, z.1, y.1, x.1, w.1)
 
-pub standard-le : (t : Pair) → standards_in_range t ≡ true → (q : Pollutant) → of q t ≤ 20000
+pub standard-le : (t : Pair ℕ) → standards_in_range t ≡ true → (q : Pollutant) → of q t ≤ 20000
 standard-le t h q =
     let x = of q t in
     within-le 10 20000 x (left (within 10 20000 x) (eqb (x % 10) 0) (both_of (λ q. standard_in_range (of q t)) h q))
@@ -105,13 +106,13 @@ module _ (p : Progress) (e : Event) (h : admissible p e ≡ true) where
   fitting = right (not (closed p) && not (events_full p)) (fits p e) h
 
 -- the bounds of an engine that could be entered
-pub record AdmittedEngine (p : Progress) (n r : ℕ) (xs : Pair) : Type 0 where
+pub record AdmittedEngine (p : Progress) (n r : ℕ) (xs : Pair ℕ) : Type 0 where
   pub number : n ≤ 65535
   pub readings : r ≤ 3
   pub results : (q : Pollutant) → of q xs ≤ 20000
   pub room : length p.tested < 40
 
-pub admitted-engine : (p : Progress) (n r : ℕ) (xs : Pair) → admissible p (Engine n r xs) ≡ true → AdmittedEngine p n r xs
+pub admitted-engine : (p : Progress) (n r : ℕ) (xs : Pair ℕ) → admissible p (Engine n r xs) ≡ true → AdmittedEngine p n r xs
 admitted-engine p n r xs h =
     let t = conjuncts (number_in_range n) (not (is_tested n p.tested)) (count_in_range r) (results_in_range xs) (not (engines_full p)) (fitting p (Engine n r xs) h) in
     record {

@@ -12,7 +12,8 @@ use Rattle.year.specs.declared.Setup.{Setup}
 use Rattle.year.specs.declared.Event.{Event}
 use Rattle.year.specs.declared.Event.TheVariants.{Engine, Amendment, NextPeriod, Declaration, Deletion}
 use Rattle.year.specs.Setup.{Pollutant, Hcnox, Co}
-use Rattle.year.specs.Replay.{Tested, Progress, after, replay, history, newest_in}
+use Rattle.year.specs.Replay.{Progress, after, replay, history, newest_in}
+use Rattle.year.specs.declared.Tested.{Tested}
 use Rattle.year.specs.Verdict.{verdict}
 use Rattle.year.specs.Status.{status, year_marks}
 use Rattle.year.specs.Admissible.{closed, fits, admissible, valid}

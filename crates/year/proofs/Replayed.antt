@@ -7,7 +7,8 @@ use lib.ListN.{length}
 use Rattle.year.specs.declared.Setup.{Setup}
 use Rattle.year.specs.declared.Event.{Event}
 use Rattle.year.specs.Setup.{Pollutant}
-use Rattle.year.specs.Replay.{Tested, replay, history}
+use Rattle.year.specs.Replay.{replay, history}
+use Rattle.year.specs.declared.Tested.{Tested}
 
 pub replay-setup : (s : Setup) (es : List Event) → (replay s es).setup ≡ s
 replay-setup s [] = refl

@@ -27,7 +27,7 @@ engines_full p = leb 40 (length p.tested)
 abbrev pub number_in_range : ℕ → Bool
 number_in_range = within 1 65535
 
-abbrev pub results_in_range : Pair → Bool
+abbrev pub results_in_range : Pair ℕ → Bool
 results_in_range results = both (λ q. result_in_range (of q results))
 
 -- the current period is the last

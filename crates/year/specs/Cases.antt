@@ -1,8 +1,7 @@
 -- Worked cases of a year besides document 01's starred ones: its two on one percent, its printed run, n = N, an amendment, and which events may follow which.
 -- Events are listed with the newest first.
-use Rattle.std.specs.Prelude.{◌≡◌, true, false, List, [], ◌∷◌, ℕ, zero, suc}
+use Rattle.std.specs.Prelude.{◌≡◌, true, false, List, [], ◌∷◌, ℕ, zero, suc, Some, None}
 use Rattle.rounding.specs.Cases.{no_factor}
-use Rattle.statistics.specs.declared.SampleSize.TheVariants.{Tenths, Absent}
 use Rattle.cumsum.specs.declared.Mark.TheVariants.{Unmarked, Over, Under}
 use Rattle.cumsum.specs.Cases.{interval}
 use Rattle.year.specs.declared.Pair.{Pair}
@@ -17,11 +16,11 @@ use Rattle.year.specs.Admissible.{closed, valid}
 use Rattle.year.specs.Status.{status, year_marks}
 use Rattle.year.specs.Work.{at_engine, marks_at, verdict_at, cumsum_at, limit_at}
 
-abbrev pub pair : ℕ → ℕ → Pair
+abbrev pub pair : ℕ → ℕ → Pair ℕ
 pair hcnox co = record { hcnox = hcnox; co = co }
 
 -- projected volume P over 365 days, the standards, and factors that change nothing
-abbrev pub setup_under : ℕ → Pair → Setup
+abbrev pub setup_under : ℕ → Pair ℕ → Setup
 setup_under volume standards = record { volume = volume; days = 365; standards = standards; factors = record { hcnox = no_factor; co = no_factor } }
 
 -- the same with this HC+NOx standard, and 6,100 for CO
@@ -45,7 +44,7 @@ only_sum sum =
       deviation = record { floor = 0; inexact = 0 };
       cumsum = record { low = 0; high = 0 };
       limit = record { low = 0; high = 0 };
-      size = Absent;
+      size = None;
       mark = Unmarked;
     }
 
@@ -91,14 +90,14 @@ pub record Cases : Type 0 where
   pub verdict_of_new_period : verdict 1024 (replay (setup_of 5000 1000) (NextPeriod ∷ engine 2 1000 ∷ engine 1 1000 ∷ [])) ≡ 0
   -- an amendment to 10 does not affect two engines entered under 1,000: verdict 2 stays, and N stays 1
   pub verdict_amended : verdict 1024 (replay (setup_of 1500 1000) (Amendment (pair 10 10) ∷ engine 2 800 ∷ engine 1 800 ∷ [])) ≡ 2
-  pub size_amended : (status 1024 (replay (setup_of 1500 1000) (Amendment (pair 10 10) ∷ engine 2 800 ∷ engine 1 800 ∷ []))).hcnox.size ≡ Tenths 10
+  pub size_amended : (status 1024 (replay (setup_of 1500 1000) (Amendment (pair 10 10) ∷ engine 2 800 ∷ engine 1 800 ∷ []))).hcnox.size ≡ Some 10
   -- and it sets T for the engine after it
   pub tests_amended : history Hcnox (replay (setup_of 5000 800) (engine 2 900 ∷ Amendment (pair 700 6100) ∷ engine 1 998 ∷ [])).tested
       ≡ record { result = 900; standard = 700 } ∷ record { result = 998; standard = 800 } ∷ []
   pub co_tests_amended : history Co (replay (setup_of 5000 800) (engine 2 900 ∷ Amendment (pair 700 6000) ∷ engine 1 998 ∷ [])).tested
       ≡ record { result = 5000; standard = 6000 } ∷ record { result = 5000; standard = 6100 } ∷ []
   -- each pollutant has its own N: with X 1,000 twice there is none for HC+NOx, and 1 for CO
-  pub size_of_co : (status 1024 (twice 1000)).co.size ≡ Tenths 10
+  pub size_of_co : (status 1024 (twice 1000)).co.size ≡ Some 10
   -- "Before engine 2 the figures other than n, S and verdict are zero and N is absent; with no engine the mark is '-'": with one engine, and with none
   pub status_of_one : status 1024 (replay (setup_of 5000 800) (engine 1 998 ∷ [])) ≡ record { n = 1; verdict = 0; hcnox = only_sum 998; co = only_sum 5000 }
   pub status_of_none : status 1024 (replay (setup_of 5000 800) []) ≡ record { n = 0; verdict = 0; hcnox = only_sum 0; co = only_sum 0 }

@@ -1,6 +1,5 @@
 -- Worked cases of a strike (document 02, W-201). Events are listed with the newest first.
-use Rattle.std.specs.Prelude.{◌≡◌, true, false, [], ◌∷◌}
-use Rattle.statistics.specs.declared.SampleSize.TheVariants.{Tenths}
+use Rattle.std.specs.Prelude.{◌≡◌, true, false, [], ◌∷◌, Some}
 use Rattle.year.specs.declared.Event.TheVariants.{Amendment, NextPeriod, Declaration, Deletion}
 use Rattle.year.specs.Setup.{Hcnox}
 use Rattle.year.specs.Replay.{start, replay, history}
@@ -24,7 +23,7 @@ pub record CasesOfDeletion : Type 0 where
   pub remaining_events : remaining (engine 1 900 ∷ Deletion ∷ Amendment (pair 700 6100) ∷ engine 1 998 ∷ []) ≡ engine 1 900 ∷ Amendment (pair 700 6100) ∷ []
   -- the last engine entered, and its strike, leave no trace: T in N is 1,000 again, under which engine 2 was entered, and not 10; N is 1, verdict 2
   pub size_of_remaining : (status 1024 (replay (setup_of 1500 1000) (Deletion ∷ engine 3 800 ∷ Amendment (pair 10 10) ∷ engine 2 800 ∷ engine 1 800 ∷ []))).hcnox.size
-      ≡ Tenths 10
+      ≡ Some 10
   pub verdict_of_remaining : verdict 1024 (replay (setup_of 1500 1000) (Deletion ∷ engine 3 800 ∷ Amendment (pair 10 10) ∷ engine 2 800 ∷ engine 1 800 ∷ [])) ≡ 2
   -- a strike can make the period short again
   pub short_again : verdict 1024 (replay (setup_of 5000 1000) (Deletion ∷ engine 2 1000 ∷ engine 1 1000 ∷ [])) ≡ 0

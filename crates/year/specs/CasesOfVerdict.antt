@@ -16,7 +16,7 @@ abbrev co_only : ℕ → ℕ → Event
 co_only number result = Engine number 1 (pair 800 result)
 
 -- three engines, given by both pollutants' results
-abbrev three_pairs : (first second third : Pair) → List Event
+abbrev three_pairs : (first second third : Pair ℕ) → List Event
 three_pairs first second third = Engine 3 1 third ∷ Engine 2 1 second ∷ Engine 1 1 first ∷ []
 
 pub record CasesOfVerdict : Type 0 where

@@ -2,7 +2,8 @@
 use Rattle.std.specs.Prelude.{◌≡◌, true, List, [], ◌∷◌, ℕ, ◌≤◌}
 use Rattle.statistics.specs.Ranges.{HistoryInRange}
 use Rattle.year.specs.Setup.{Pollutant, standards_in_range, setup_in_range}
-use Rattle.year.specs.Replay.{Tested, Progress, history}
+use Rattle.year.specs.Replay.{Progress, history}
+use Rattle.year.specs.declared.Tested.{Tested}
 
 -- no engine belongs to a later period
 abbrev pub PeriodsUpTo : ℕ → List Tested → Type 0

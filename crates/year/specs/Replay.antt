@@ -1,25 +1,19 @@
 -- What a setup and its events amount to: every figure of document 01 is computed from this, and none looks at the events themselves.
 -- Events and tested engines are listed with the newest first.
 use Rattle.std.specs.Prelude.{Bool, true, false, cond, ◌||◌, List, [], ◌∷◌, ℕ, ◌+◌, eqb, ltb, drop}
-use Rattle.statistics.specs.Spread.{Test}
+use Rattle.statistics.specs.declared.Test.{Test}
 use Rattle.year.specs.declared.Pair.{Pair}
 use Rattle.year.specs.declared.Setup.{Setup}
+use Rattle.year.specs.declared.Tested.{Tested}
 use Rattle.year.specs.declared.Event.{Event}
 use Rattle.year.specs.declared.Event.TheVariants.{Engine, Amendment, NextPeriod, Declaration, Deletion}
 use Rattle.year.specs.Setup.{Pollutant, of}
 use Rattle.year.specs.Periods.{needs}
 
--- a tested engine: its number and results, "the standard in force when [it] was entered" for each pollutant, and its period
-pub record Tested : Type 0 where
-  pub number : ℕ
-  pub results : Pair
-  pub standards : Pair
-  pub period : ℕ
-
 -- the setup, the standards in force, the current period, the engines tested, how many events are stored, whether a declaration was made
 pub record Progress : Type 0 where
   pub setup : Setup
-  pub standards : Pair
+  pub standards : Pair ℕ
   pub period : ℕ
   pub tested : List Tested
   pub stored : ℕ
@@ -30,7 +24,7 @@ abbrev pub start : Setup → Progress
 start s = record { setup = s; standards = s.standards; period = 1; tested = []; stored = 0; declared = false }
 
 -- the effect of one more event, for each thing that events change. "An amendment .. sets T for later engines."
-abbrev pub standards_after : Event → Pair → Pair
+abbrev pub standards_after : Event → Pair ℕ → Pair ℕ
 standards_after (Engine number readings results) in_force = in_force
 standards_after (Amendment standards) in_force = standards
 standards_after NextPeriod in_force = in_force

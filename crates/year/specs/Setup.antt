@@ -12,13 +12,13 @@ pub data Pollutant : Type 0 where
   Co : Pollutant
 
 -- a pollutant's part of a pair, and of a setup's factors
-abbrev pub of : Pollutant → Pair → ℕ
-of Hcnox pair = pair.hcnox
-of Co pair = pair.co
+module _ {A : Type 0} where
+  abbrev pub of : Pollutant → Pair A → A
+  of Hcnox pair = pair.hcnox
+  of Co pair = pair.co
 
 abbrev pub factor_of : Pollutant → Setup → Factor
-factor_of Hcnox setup = setup.factors.hcnox
-factor_of Co setup = setup.factors.co
+factor_of q setup = of q setup.factors
 
 -- both pollutants pass a test
 abbrev pub both : (Pollutant → Bool) → Bool
@@ -43,7 +43,7 @@ judged = Hcnox ∷ Co ∷ []
 abbrev pub standard_in_range : ℕ → Bool
 standard_in_range t = within 10 20000 t && eqb (t % 10) 0
 
-abbrev pub standards_in_range : Pair → Bool
+abbrev pub standards_in_range : Pair ℕ → Bool
 standards_in_range standards = both (λ q. standard_in_range (of q standards))
 
 -- "Projected volume P is 1 to 99,999,999, production days D 1 to 366." (document 01, "Periods")

@@ -1,9 +1,8 @@
 -- All the starred cases of document 01, "Cases on the edges", in its order, as one statement about the definitions.
 -- Events are listed with the newest first.
-use Rattle.std.specs.Prelude.{◌≡◌, [], ◌∷◌, reverse, ◌*◌}
+use Rattle.std.specs.Prelude.{◌≡◌, [], ◌∷◌, reverse, ◌*◌, Some, None}
 use Rattle.rounding.specs.Result.{rounded, mean, factored}
 use Rattle.rounding.specs.Cases.{multiplied}
-use Rattle.statistics.specs.declared.SampleSize.TheVariants.{Tenths, Absent}
 use Rattle.statistics.specs.Cases.{exactly}
 use Rattle.cumsum.specs.declared.Mark.TheVariants.{Unmarked, Over, Under, Undecided}
 use Rattle.cumsum.specs.Cases.{interval}
@@ -37,10 +36,10 @@ pub record StarredCases : Type 0 where
   pub marks_of_three : reverse (marks 1024 (history Hcnox (replay (setup_of 5000 100) three).tested)) ≡ Unmarked ∷ Over ∷ Over ∷ []
   pub three_failed : verdict 1024 (replay (setup_of 5000 100) three) ≡ 6
   -- * T 1,000, X 800 twice, CO 5,000 twice under 6,100, P 1,500: N is 1, verdict 2
-  pub size_of_800 : (status 1024 (twice 800)).hcnox.size ≡ Tenths 10
-  pub size_of_800_co : (status 1024 (twice 800)).co.size ≡ Tenths 10
+  pub size_of_800 : (status 1024 (twice 800)).hcnox.size ≡ Some 10
+  pub size_of_800_co : (status 1024 (twice 800)).co.size ≡ Some 10
   pub verdict_of_800 : verdict 1024 (twice 800) ≡ 2
   -- * With X 1,000 twice: no N, 'U', verdict 1
-  pub size_of_1000 : (status 1024 (twice 1000)).hcnox.size ≡ Absent
+  pub size_of_1000 : (status 1024 (twice 1000)).hcnox.size ≡ None
   pub mark_of_1000 : (status 1024 (twice 1000)).hcnox.mark ≡ Under
   pub verdict_of_1000 : verdict 1024 (twice 1000) ≡ 1

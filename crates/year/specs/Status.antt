@@ -1,8 +1,7 @@
 -- Document 01, "The book": what status gives; and the marks of a year in the order in which they are printed.
-use Rattle.std.specs.Prelude.{List, [], ◌∷◌, ◌++◌, map, ℕ, length}
-use Rattle.statistics.specs.declared.SampleSize.{SampleSize}
-use Rattle.statistics.specs.declared.SampleSize.TheVariants.{Absent}
-use Rattle.statistics.specs.Spread.{Test, total, deviation_of}
+use Rattle.std.specs.Prelude.{List, [], ◌∷◌, ◌++◌, map, ℕ, length, Option, None}
+use Rattle.statistics.specs.Spread.{total, deviation_of}
+use Rattle.statistics.specs.declared.Test.{Test}
 use Rattle.statistics.specs.SampleSize.{sample_size_of}
 use Rattle.cumsum.specs.declared.Mark.{Mark}
 use Rattle.cumsum.specs.declared.Mark.TheVariants.{Unmarked}
@@ -11,11 +10,12 @@ use Rattle.cumsum.specs.Marks.{mark}
 use Rattle.year.specs.declared.Figures.{Figures}
 use Rattle.year.specs.declared.Status.{Status}
 use Rattle.year.specs.Setup.{Pollutant, Hcnox, Co, judged}
-use Rattle.year.specs.Replay.{Tested, Progress, history}
+use Rattle.year.specs.Replay.{Progress, history}
+use Rattle.year.specs.declared.Tested.{Tested}
 use Rattle.year.specs.Verdict.{verdict}
 
 -- "Before engine 2 the figures other than n, S and verdict are zero ..; with no engine the mark is '-'." Engine 1 has '-' too. N is a separate argument
-abbrev pub early : ℕ → SampleSize → Figures
+abbrev pub early : ℕ → Option ℕ → Figures
 early sum size =
     record {
       sum = sum;
@@ -28,10 +28,10 @@ early sum size =
 
 -- "and N is absent"
 abbrev pub blank : ℕ → Figures
-blank sum = early sum Absent
+blank sum = early sum None
 
 -- "per pollutant S, s, e, both C, both H, N in tenths, mark"
-abbrev pub figures : ℕ → SampleSize → List Test → Figures
+abbrev pub figures : ℕ → Option ℕ → List Test → Figures
 figures k size [] = early 0 size
 figures k size (x ∷ []) = early x.result size
 figures k size (x ∷ y ∷ h) =
@@ -45,7 +45,7 @@ figures k size (x ∷ y ∷ h) =
     }
 
 -- N of a pollutant
-abbrev pub size_of : Pollutant → Progress → SampleSize
+abbrev pub size_of : Pollutant → Progress → Option ℕ
 size_of q p = sample_size_of (history q p.tested)
 
 -- "n, verdict", and the figures of each pollutant

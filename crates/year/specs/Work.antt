@@ -1,6 +1,6 @@
 -- Document 01, "Spread, brackets, marks": "Work at m takes k = 1,024 × m in all of this, and its marks in the verdict below". The calculator works at m = 1.
 use Rattle.std.specs.Prelude.{List, ℕ, ◌*◌, ◌-◌, length, drop}
-use Rattle.statistics.specs.Spread.{Test}
+use Rattle.statistics.specs.declared.Test.{Test}
 use Rattle.cumsum.specs.declared.Interval.{Interval}
 use Rattle.cumsum.specs.declared.Mark.{Mark}
 use Rattle.cumsum.specs.Intervals.{cumsum, action_limit}

@@ -1,27 +1,33 @@
 // The model year of one engine family: what was set up, what was entered, and the figures of a status.
 #![tactic(auto)]
 
+ghost use Rattle.std.specs.Prelude.{◌≡◌, Bool, ◌&&◌};
+
 use cumsum::{Interval, Mark};
 use rounding::Factor;
-use statistics::{Deviation, SampleSize};
+use statistics::{Deviation, Test};
 
 // "At most 40 engines"; "number of events, 0 to 64".
 pub const MOST_ENGINES: usize = 40;
 
 pub const MOST_EVENTS: u32 = 64;
 
-// A number for each pollutant: results, or standards, in result units.
-#[derive(Clone, Copy)]
-pub struct Pair {
-    pub hcnox: u32,
-    pub co: u32,
+// A value for each pollutant: results or standards, in result units, factors, figures.
+#[derive(Clone, Copy, Default)]
+pub struct Pair<T> {
+    pub hcnox: T,
+    pub co: T,
 }
 
-// A factor for each pollutant.
-#[derive(Clone, Copy)]
-pub struct Factors {
-    pub hcnox: Factor,
-    pub co: Factor,
+impl<T> Pair<T> {
+    // Whether both pollutants pass a test.
+    pub fn both<F: Fn(T) -> bool>(self, test: F) -> bool
+        requires hcnox { F.pre test self.hcnox }
+        requires co { F.pre test self.co }
+        ensures { (h o : Bool) × F.post test self.hcnox h × F.post test self.co o × (result ≡ (h && o)) }
+    {
+        test(self.hcnox) & test(self.co)
+    }
 }
 
 // Projected volume P, production days D, the first standards, the factors. Any values; `setup_in_range` says whether they are in range.
@@ -29,8 +35,37 @@ pub struct Factors {
 pub struct Setup {
     pub volume: u32,
     pub days: u32,
-    pub standards: Pair,
-    pub factors: Factors,
+    pub standards: Pair<u32>,
+    pub factors: Pair<Factor>,
+}
+
+// A tested engine: its number and results, "the standard in force when [it] was entered" for each pollutant, and its period. The fields are as narrow as their
+// ranges allow, since a year holds forty of them.
+#[derive(Clone, Copy, Default)]
+pub struct Tested {
+    pub number: u16,
+    pub results: Pair<u16>,
+    pub standards: Pair<u16>,
+    pub period: u8,
+}
+
+impl Tested {
+    // The engine as each pollutant sees it.
+    pub fn tests(self) -> Pair<Test>
+        ensures hcnox { result.hcnox ≡ record { result = self.results.hcnox; standard = self.standards.hcnox } }
+        ensures co { result.co ≡ record { result = self.results.co; standard = self.standards.co } }
+    {
+        Pair {
+            hcnox: Test {
+                result: self.results.hcnox as u32,
+                standard: self.standards.hcnox as u32,
+            },
+            co: Test {
+                result: self.results.co as u32,
+                standard: self.standards.co as u32,
+            },
+        }
+    }
 }
 
 // What is stored for an accepted entry. `readings` is the number of readings for each pollutant. A deletion ("strike" in document 02, W-201) removes the newest
@@ -40,9 +75,9 @@ pub enum Event {
     Engine {
         number: u32,
         readings: u32,
-        results: Pair,
+        results: Pair<u32>,
     },
-    Amendment(Pair),
+    Amendment(Pair<u32>),
     NextPeriod,
     Declaration,
     Deletion,
@@ -55,7 +90,7 @@ pub struct Figures {
     pub deviation: Deviation,
     pub cumsum: Interval,
     pub limit: Interval,
-    pub size: SampleSize,
+    pub size: Option<u64>,
     pub mark: Mark,
 }
 
