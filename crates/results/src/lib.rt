@@ -5,7 +5,6 @@
 ghost use Rattle.std.specs.Prelude.{◌≡◌, map, ◌^◌, ◌≤◌, ◌<◌, length};
 ghost use Rattle.rounding.specs.Result.{nearest_even, rounded, sum, factored, result_of, count_in_range, reading_in_range, factor_in_range, result_in_range};
 
-use conditions::{both, within};
 use rounding::Factor;
 
 // a / b to the nearest, halves to the even neighbour.
@@ -33,10 +32,8 @@ fn rounded_sum(readings: &[u32]) -> u64
     ensures below { result < 2 ^ 24 }
 {
     let mut total: u64 = 0;
-    let mut i = 0;
-    while i < readings.len() {
-        total += nearest_even(readings[i] as u64, 1000);
-        i += 1;
+    for reading in readings {
+        total += nearest_even(*reading as u64, 1000);
     }
     total
 }
@@ -47,10 +44,11 @@ fn with_factor(factor: Factor, mean: u64) -> u64
     ensures { result ≡ factored factor mean }
 {
     let value = factor.value as u64;
-    if factor.kind == 0 {
-        return nearest_even(1000 * mean + value, 1000);
-    }
-    nearest_even(mean * value, 1000)
+    let thousandths = match factor.kind {
+        0 => 1000 * mean + value,
+        _ => mean * value,
+    };
+    nearest_even(thousandths, 1000)
 }
 
 // The result of an engine's readings for one pollutant.
@@ -67,7 +65,7 @@ pub fn result_of(factor: Factor, readings: &[u32]) -> u64
 pub fn count_in_range(count: usize) -> bool
     ensures { result ≡ count_in_range count }
 {
-    both(1 <= count, count <= 3)
+    (1..=3).contains(&count)
 }
 
 pub fn reading_in_range(reading: u32) -> bool
@@ -79,14 +77,11 @@ pub fn reading_in_range(reading: u32) -> bool
 pub fn factor_in_range(factor: Factor) -> bool
     ensures { result ≡ factor_in_range factor }
 {
-    let value = factor.value;
-    if factor.kind == 0 {
-        return value <= 60000;
+    match factor.kind {
+        0 => factor.value <= 60000,
+        1 => (1000..=60000).contains(&factor.value),
+        _ => false,
     }
-    if factor.kind == 1 {
-        return within(1000, 60000, value);
-    }
-    false
 }
 
 pub fn result_in_range(res: u64) -> bool

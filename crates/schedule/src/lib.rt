@@ -6,7 +6,6 @@ ghost use Rattle.year.specs.Setup.{standard_in_range, standards_in_range, produc
 ghost use Rattle.year.specs.Periods.{periods, needs};
 ghost use Rattle.year.specs.Verdict.{one_percent};
 
-use conditions::{both, within};
 use results::{factor_in_range, nearest_even};
 use year::{Pair, Setup};
 
@@ -14,45 +13,32 @@ use year::{Pair, Setup};
 pub fn standard_in_range(standard: u32) -> bool
     ensures { result ≡ standard_in_range standard }
 {
-    both(within(10, 20000, standard), standard % 10 == 0)
+    (10..=20000).contains(&standard) && standard % 10 == 0
 }
 
-pub fn standards_in_range(standards: Pair) -> bool
+pub fn standards_in_range(standards: Pair<u32>) -> bool
     ensures { result ≡ standards_in_range standards }
 {
-    both(
-        standard_in_range(standards.hcnox),
-        standard_in_range(standards.co),
-    )
+    standards.both(standard_in_range)
 }
 
 // Projected volume 1 to 99,999,999, production days 1 to 366.
 pub fn production_in_range(setup: Setup) -> bool
     ensures { result ≡ production_in_range setup }
 {
-    both(
-        within(1, 99999999, setup.volume),
-        within(1, 366, setup.days),
-    )
+    (1..=99999999).contains(&setup.volume) && (1..=366).contains(&setup.days)
 }
 
 pub fn factors_in_range(setup: Setup) -> bool
     ensures { result ≡ factors_in_range setup }
 {
-    let factors = setup.factors;
-    let hcnox = factors.hcnox;
-    let co = factors.co;
-    both(factor_in_range(hcnox), factor_in_range(co))
+    setup.factors.both(factor_in_range)
 }
 
 pub fn setup_in_range(setup: Setup) -> bool
     ensures { result ≡ setup_in_range setup }
 {
-    let standards = setup.standards;
-    both(
-        both(production_in_range(setup), standards_in_range(standards)),
-        factors_in_range(setup),
-    )
+    production_in_range(setup) && standards_in_range(setup.standards) && factors_in_range(setup)
 }
 
 // The number of test periods.
@@ -63,16 +49,12 @@ pub fn periods(volume: u32, days: u32) -> u32
     if volume < 1600 {
         return 1;
     }
-    if days <= 120 {
-        return 1;
+    match days {
+        ..=120 => 1,
+        121..=210 => 2,
+        211..=300 => 3,
+        _ => 4,
     }
-    if days <= 210 {
-        return 2;
-    }
-    if days <= 300 {
-        return 3;
-    }
-    4
 }
 
 // How many engines a period needs.
@@ -80,10 +62,7 @@ pub fn periods(volume: u32, days: u32) -> u32
 pub fn needs(period: u32) -> u32
     ensures { result ≡ needs period }
 {
-    if period == 1 {
-        return 2;
-    }
-    1
+    if period == 1 { 2 } else { 1 }
 }
 
 // One percent of the projected volume, rounded, halves to even.

@@ -6,16 +6,15 @@ use Rattle.results.proofs.rounded_sum.Goals as goal
 
 pub overflow_add-total : goal.overflow_add-total
 overflow_add-total c =
-    let i = c.loop-i.i in
+    let i = c.loop-reading.reading-index in
     omega (arith, c.nearest_even-total.ensures, nearest-le (get_or c.args.readings.now i 0) 1000, c.type_inv.readings i)
 
-pub loop-i-preserved : goal.loop-i-preserved
-loop-i-preserved c =
-    let i = c.loop-i.i in
+pub loop-reading-preserved : goal.loop-reading-preserved
+loop-reading-preserved c =
+    let i = c.loop-reading.reading-index in
     let reading = get_or c.args.readings.now i 0 in
     let turn : c.nearest_even-total.result ≤ 4294968 = omega (arith, c.nearest_even-total.ensures, nearest-le reading 1000, c.type_inv.readings i) in
     record {
-      in_range = omega arith;
       added = omega (arith, c.nearest_even-total.ensures, sum-next rounded c.args.readings.now i (omega arith));
       small = omega arith;
     }
