@@ -5,7 +5,6 @@ ghost use Rattle.std.specs.Prelude.{◌≡◌};
 ghost use Rattle.year.specs.Admissible.{number_in_range, results_in_range, fits, admissible};
 ghost use Rattle.progress.specs.State.{progress_of, Consistent};
 
-use conditions::{both, either, within};
 use engines::lookup::{is_tested, newest_in};
 use progress::Progress;
 use results::{count_in_range, result_in_range};
@@ -16,30 +15,25 @@ use year::{Event, MOST_ENGINES, MOST_EVENTS, Pair};
 pub fn number_in_range(number: u32) -> bool
     ensures { result ≡ number_in_range number }
 {
-    within(1, 65535, number)
+    (1..=65535).contains(&number)
 }
 
-pub fn results_in_range(results: Pair) -> bool
+pub fn results_in_range(results: Pair<u32>) -> bool
     ensures { result ≡ results_in_range results }
 {
-    both(
-        result_in_range(results.hcnox as u64),
-        result_in_range(results.co as u64),
-    )
+    results.both(|x| result_in_range(x as u64))
 }
 
 // An engine: its number is in range and new, it has 1 to 3 readings, its results are in range, and there is room for it.
-fn engine_fits(p: &Progress, number: u32, readings: u32, results: Pair) -> bool
+fn engine_fits(p: &Progress, number: u32, readings: u32, results: Pair<u32>) -> bool
     requires { Consistent p.now }
     ensures { result ≡ fits (progress_of p.now) (Event.Engine number readings results) }
 {
-    let engines = &p.engines;
-    let named = both(number_in_range(number), !is_tested(engines, number));
-    let read = both(named, count_in_range(readings as usize));
-    both(
-        both(read, results_in_range(results)),
-        engines.count < MOST_ENGINES,
-    )
+    number_in_range(number)
+        && !is_tested(&p.engines, number)
+        && count_in_range(readings as usize)
+        && results_in_range(results)
+        && p.engines.len() < MOST_ENGINES
 }
 
 // The next period: there is one, and the current one is not short.
@@ -48,7 +42,7 @@ pub fn period_fits(p: &Progress) -> bool
     ensures { result ≡ fits (progress_of p.now) Event.NextPeriod }
 {
     let last = periods(p.setup.volume, p.setup.days) <= p.period;
-    !either(last, is_short(p.current, p.period))
+    !(last || is_short(p.current, p.period))
 }
 
 // A deletion ("strike"): the newest engine was entered in the current period.
@@ -56,8 +50,7 @@ pub fn deletion_fits(p: &Progress) -> bool
     requires { Consistent p.now }
     ensures { result ≡ fits (progress_of p.now) Event.Deletion }
 {
-    let engines = &p.engines;
-    newest_in(engines, p.period)
+    newest_in(&p.engines, p.period)
 }
 
 // The conditions that depend on the event's kind.
@@ -84,5 +77,5 @@ pub fn is_admissible(p: &Progress, e: Event) -> bool
     requires { Consistent p.now }
     ensures { result ≡ admissible (progress_of p.now) e }
 {
-    both(both(!closed(p), p.stored < MOST_EVENTS), event_fits(p, e))
+    !closed(p) && p.stored < MOST_EVENTS && event_fits(p, e)
 }

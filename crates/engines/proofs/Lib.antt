@@ -1,3 +1,2 @@
-pub mod Sized
-pub mod Arrays
+pub mod Newest
 pub mod Shown

@@ -1,35 +1,32 @@
 // Look-up of an engine number among the tested engines, and of the newest engine's period.
-ghost use Rattle.std.specs.Prelude.{◌≡◌, ◌≤◌};
+ghost use Rattle.std.specs.Prelude.{◌≡◌, eqb};
+ghost use Rattle.std.specs.List.{list_any};
 ghost use Rattle.year.specs.Replay.{is_tested, newest_in};
 ghost use Rattle.engines.specs.Engines.{tested};
 
 use crate::Engines;
-use conditions::either;
+use year::Tested;
+
+// Whether one of these engines has a number.
+fn any_has(engines: &[Tested], number: u32) -> bool
+    ensures { result ≡ list_any (λ x. eqb x.number number) engines.now }
+{
+    engines.iter().any(|x| x.number as u32 == number)
+}
 
 pub fn is_tested(e: &Engines, number: u32) -> bool
-    requires { e.now.count ≤ 40 }
     ensures { result ≡ is_tested number (tested e.now) }
 {
-    let numbers = e.numbers;
-    let count = e.count;
-    let mut found = false;
-    let mut i: usize = 0;
-    while i < count {
-        found = either(numbers[i] as u32 == number, found);
-        i += 1;
-    }
-    found
+    any_has(e.as_slice(), number)
 }
 
 // Whether the newest engine was tested in a period; false if there is no engine.
+#[tactic(auto, using(crate::proofs::Newest::newest_last))]
 pub fn newest_in(e: &Engines, period: u32) -> bool
-    requires { e.now.count ≤ 40 }
     ensures { result ≡ newest_in period (tested e.now) }
 {
-    let periods = e.periods;
-    let count = e.count;
-    if count == 0 {
-        return false;
+    match e.as_slice() {
+        [.., newest] => newest.period as u32 == period,
+        [] => false,
     }
-    periods[count - 1] as u32 == period
 }

@@ -3,50 +3,51 @@ ghost use Rattle.std.specs.Prelude.{◌≡◌, [], ◌∷◌, ◌≤◌, drop};
 ghost use Rattle.engines.specs.Engines.{tested, EngineInRange};
 
 use crate::Engines;
-use year::{MOST_ENGINES, Pair};
+use year::{Pair, Tested};
 
-// Arrays with no engine.
+// No engine.
 pub fn no_engines() -> Engines
     ensures { tested result ≡ [] }
 {
-    Engines {
-        count: 0,
-        numbers: [0; MOST_ENGINES],
-        periods: [0; MOST_ENGINES],
-        hcnox_results: [0; MOST_ENGINES],
-        hcnox_standards: [0; MOST_ENGINES],
-        co_results: [0; MOST_ENGINES],
-        co_standards: [0; MOST_ENGINES],
+    Engines::new()
+}
+
+// The same numbers, each in half the width.
+fn narrow(pair: Pair<u32>) -> Pair<u16>
+    requires { (pair.hcnox ≤ 65535) × (pair.co ≤ 65535) }
+    ensures { result ≡ pair }
+{
+    Pair {
+        hcnox: pair.hcnox as u16,
+        co: pair.co as u16,
     }
 }
 
-// The arrays with one more engine, with the standards in force and its period.
-pub fn with_engine(
-    mut e: Engines,
+// Adds an engine, with the standards in force and its period.
+#[tactic(auto, using(crate::proofs::Newest::newest_first))]
+pub fn add_engine(
+    e: &mut Engines,
     number: u32,
-    results: Pair,
-    standards: Pair,
+    results: Pair<u32>,
+    standards: Pair<u32>,
     period: u32,
-) -> Engines
-    requires { EngineInRange e number results standards period }
-    ensures { tested result ≡ record { number = number; results = results; standards = standards; period = period } ∷ tested e }
+)
+    requires { EngineInRange e.old number results standards period }
+    ensures { tested e.new ≡ record { number = number; results = results; standards = standards; period = period } ∷ tested e.old }
 {
-    let at = e.count;
-    e.count = at + 1;
-    e.numbers[at] = number as u16;
-    e.periods[at] = period as u8;
-    e.hcnox_results[at] = results.hcnox as u16;
-    e.hcnox_standards[at] = standards.hcnox as u16;
-    e.co_results[at] = results.co as u16;
-    e.co_standards[at] = standards.co as u16;
-    e
+    let engine = Tested {
+        number: number as u16,
+        results: narrow(results),
+        standards: narrow(standards),
+        period: period as u8,
+    };
+    e.push(engine);
 }
 
-// The arrays without the newest engine: its place is unused again.
-pub fn without_newest(mut e: Engines) -> Engines
-    requires { 1 ≤ e.count }
-    ensures { tested result ≡ drop 1 (tested e) }
+// Removes the newest engine, if there is one.
+#[tactic(auto, using(crate::proofs::Newest::rest_newest))]
+pub fn remove_newest(e: &mut Engines)
+    ensures { tested e.new ≡ drop 1 (tested e.old) }
 {
-    e.count = e.count - 1;
-    e
+    e.pop();
 }

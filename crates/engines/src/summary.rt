@@ -7,34 +7,27 @@ ghost use Rattle.figures.specs.Running.{running, Worked};
 
 use figures::Running;
 use sample_size::{sample_size_of, size_reached};
-use statistics::SampleSize;
 use year::Figures;
 
 // N of one pollutant. Before engine 2 there is none, which `sample_size_of` sees to, so there is no test here.
-pub fn size_of(f: Running) -> SampleSize
+pub fn size_of(f: Running) -> Option<u64>
     requires { Worked f }
     ensures { (k : ℕ) (h : List Test) → f ≡ running k h → result ≡ sample_size_of h }
 {
-    let s = f.sums;
-    sample_size_of(s.n, s.total, f.standard, s.variation)
+    sample_size_of(f.sums, f.standard)
 }
 
 // The figures of a status, with this N. Before engine 2 they are 0, except S.
-pub fn with_size(f: Running, size: SampleSize) -> Figures
+pub fn with_size(f: Running, size: Option<u64>) -> Figures
     ensures { (k : ℕ) (h : List Test) → f ≡ running k h → result ≡ figures k size h }
 {
-    let s = f.sums;
-    let deviation = f.deviation;
-    let cumsum = f.cumsum;
-    let limit = f.limit;
-    let mark = f.mark;
     Figures {
-        sum: s.total,
-        deviation,
-        cumsum,
-        limit,
+        sum: f.sums.total,
+        deviation: f.deviation,
+        cumsum: f.cumsum,
+        limit: f.limit,
         size,
-        mark,
+        mark: f.mark,
     }
 }
 
@@ -43,8 +36,7 @@ pub fn figures_of(f: Running) -> Figures
     requires { Worked f }
     ensures { (k : ℕ) (h : List Test) → f ≡ running k h → result ≡ figures k (sample_size_of h) h }
 {
-    let size = size_of(f);
-    with_size(f, size)
+    with_size(f, size_of(f))
 }
 
 // The stop test of one pollutant.
@@ -52,6 +44,5 @@ pub fn reached(f: Running) -> bool
     requires { Worked f }
     ensures { (k : ℕ) (h : List Test) → f ≡ running k h → result ≡ size_reached_of h }
 {
-    let s = f.sums;
-    size_reached(s.n, s.total, f.standard, s.variation)
+    size_reached(f.sums, f.standard)
 }

@@ -16,16 +16,15 @@ use Rattle.year.proofs.Replayed.{history-length}
 use Rattle.year.proofs.Ranges.{standard-le, tested-in-le, fitting, admitted-engine, after-in-range}
 use Rattle.figures.specs.declared.Running.{Running}
 use Rattle.figures.specs.Running.{running, RunningInRange, Worked}
-use Rattle.engines.specs.declared.Engines.{Engines}
-use Rattle.engines.specs.Engines.{tested, EngineInRange, EnginesInRange}
-use Rattle.engines.proofs.Arrays.{tested-length}
+use Rattle.engines.specs.Engines.{Engines, tested, EngineInRange, EnginesInRange}
+use Rattle.arrayvec.specs.ArrayVec.{array_vec_len}
+use Rattle.std.proofs.lemmas.List.{length-reverse}
 use Rattle.progress.specs.declared.Progress.{Progress as State}
 use Rattle.progress.specs.State.{progress_of, Consistent}
 
 -- the figures that a state carries for a pollutant
 abbrev pub figures_of : Pollutant → State → Running
-figures_of Hcnox p = p.hcnox
-figures_of Co p = p.co
+figures_of q p = of q p.figures
 
 -- there is room for an engine: its place and numbers fit the arrays, the current period can count one more, and its results fit the figures
 pub record Room (p : State) (number : ℕ) (results : Pair ℕ) : Type 0 where
@@ -33,9 +32,8 @@ pub record Room (p : State) (number : ℕ) (results : Pair ℕ) : Type 0 where
   pub current : p.current ≤ 40
   pub figures : (q : Pollutant) → RunningInRange 1024 (figures_of q p) (of q results)
 
--- the newest engine can go: there is one, it is counted in the current period, and those that remain are in range
+-- the newest engine can go: it is counted in the current period, and those that remain are in range
 pub record Deletable (p : State) : Type 0 where
-  pub place : 1 ≤ p.engines.count
   pub current : 1 ≤ p.current
   pub rest : (e : Engines) → tested e ≡ drop 1 (tested p.engines) → EnginesInRange e 1024
 
@@ -45,10 +43,10 @@ newest-counted period [] h = absurd (false≢true h)
 newest-counted period (x ∷ xs) h = rw h (omega arith)
 
 module _ (p : State) (c : Consistent p) where
-  pub counted : length (tested p.engines) ≡ p.engines.count
-  counted = tested-length p.engines p.engines.count
+  pub counted : length (tested p.engines) ≡ array_vec_len p.engines
+  counted = length-reverse p.engines.items
 
-  pub count-le : p.engines.count ≤ 40
+  pub count-le : array_vec_len p.engines ≤ 40
   count-le = omega (arith, (c.in_range.histories Hcnox).few, history-length Hcnox (tested p.engines), counted)
 
   carried : (q : Pollutant) → figures_of q p ≡ running 1024 (history q (tested p.engines))
@@ -72,7 +70,7 @@ module _ (p : State) (c : Consistent p) where
   pub room : (number readings : ℕ) (results : Pair ℕ) → admissible (progress_of p) (Engine number readings results) ≡ true → Room p number results
   room number readings results h =
       let a = admitted-engine (progress_of p) number readings results h in
-      let place : p.engines.count < 40 = omega (arith, a.room, counted) in
+      let place : array_vec_len p.engines < 40 = omega (arith, a.room, counted) in
       record {
         engine = record { place = place; number = a.number; results = a.results; standards = standard-le p.standards c.in_range.standards; period = c.in_range.period };
         current = omega (arith, c.current, tested-in-le p.period (tested p.engines), counted);
@@ -91,7 +89,6 @@ module _ (p : State) (c : Consistent p) where
       let some = newest-counted p.period (tested p.engines) (fitting (progress_of p) Deletion h) in
       let r = after-in-range Deletion (progress_of p) c.in_range h in
       record {
-        place = omega (arith, some, tested-in-le p.period (tested p.engines), counted);
         current = omega (arith, some, c.current);
         rest = λ e te. record { histories = λ q. rw te (r.histories q); fine = omega arith };
       }

@@ -16,8 +16,7 @@ use Rattle.year.specs.Ranges.{InRange}
 use Rattle.year.proofs.Ranges.{after-in-range, none-in-next, fitting}
 use Rattle.figures.specs.declared.Running.{Running}
 use Rattle.figures.specs.Running.{running}
-use Rattle.engines.specs.declared.Engines.{Engines}
-use Rattle.engines.specs.Engines.{tested}
+use Rattle.engines.specs.Engines.{Engines, tested}
 use Rattle.progress.specs.declared.Progress.{Progress as State}
 use Rattle.progress.specs.State.{progress_of, Figured, Consistent}
 use Rattle.progress.proofs.Carried.{newest-counted}
@@ -37,13 +36,12 @@ changed p standards period declared current =
       stored = p.stored + 1;
       declared = declared;
       current = current;
-      hcnox = p.hcnox;
-      co = p.co;
+      figures = p.figures;
     }
 
 -- a state with one more event that changes the engines, and with them their number in the current period and the figures
-abbrev with-engines : State → Engines → ℕ → Running → Running → State
-with-engines p e current h o =
+abbrev with-engines : State → Engines → ℕ → Pair Running → State
+with-engines p e current f =
     record {
       setup = p.setup;
       standards = p.standards;
@@ -52,14 +50,13 @@ with-engines p e current h o =
       stored = p.stored + 1;
       declared = p.declared;
       current = current;
-      hcnox = h;
-      co = o;
+      figures = f;
     }
 
 module _ (p : State) (c : Consistent p) where
   -- a state that shows the year with one more event represents it, if it has the count of its period's engines and the figures at 1,024
   stepped : (e : Event) → admissible (progress_of p) e ≡ true → (s : State) → progress_of s ≡ after e (progress_of p)
-      → s.current ≡ tested_in s.period (tested s.engines) → Figured 1024 s.engines s.hcnox s.co → Represents s (after e (progress_of p))
+      → s.current ≡ tested_in s.period (tested s.engines) → Figured 1024 s.engines s.figures → Represents s (after e (progress_of p))
   stepped e a s is n f = (is, record { in_range = subst InRange (sym is) (after-in-range e (progress_of p) c.in_range a); current = n; figures = f })
 
   pub amended : (t : Pair ℕ) → admissible (progress_of p) (Amendment t) ≡ true
@@ -73,19 +70,19 @@ module _ (p : State) (c : Consistent p) where
   declared a = stepped Declaration a _ refl c.current c.figures
 
   -- one engine less: the newest, which was of the current period
-  pub deleted : (e : Engines) (h o : Running) → admissible (progress_of p) Deletion ≡ true → tested e ≡ drop 1 (tested p.engines) → Figured 1024 e h o
-      → Represents (with-engines p e (p.current - 1) h o) (after Deletion (progress_of p))
-  deleted e h o a te f =
+  pub deleted : (e : Engines) (f : Pair Running) → admissible (progress_of p) Deletion ≡ true → tested e ≡ drop 1 (tested p.engines) → Figured 1024 e f
+      → Represents (with-engines p e (p.current - 1) f) (after Deletion (progress_of p))
+  deleted e f a te figured =
       let fewer = newest-counted p.period (tested p.engines) (fitting (progress_of p) Deletion a) in
-      stepped Deletion a _ (rw te) (rw te (omega (arith, fewer, c.current))) f
+      stepped Deletion a _ (rw te) (rw te (omega (arith, fewer, c.current))) figured
 
   -- one more engine: it is among the tested, and its results are added to the figures
-  pub engine : (number readings : ℕ) (results : Pair ℕ) (e : Engines) (h o : Running)
+  pub engine : (number readings : ℕ) (results : Pair ℕ) (e : Engines) (f : Pair Running)
       → admissible (progress_of p) (Engine number readings results) ≡ true
       → tested e ≡ record { number = number; results = results; standards = p.standards; period = p.period } ∷ tested p.engines
-      → ((xs : List Test) → p.hcnox ≡ running 1024 xs → h ≡ running 1024 (record { result = results.hcnox; standard = p.standards.hcnox } ∷ xs))
-      → ((xs : List Test) → p.co ≡ running 1024 xs → o ≡ running 1024 (record { result = results.co; standard = p.standards.co } ∷ xs))
-      → Represents (with-engines p e (p.current + 1) h o) (after (Engine number readings results) (progress_of p))
-  engine number readings results e h o a te eh eo =
+      → ((xs : List Test) → p.figures.hcnox ≡ running 1024 xs → f.hcnox ≡ running 1024 (record { result = results.hcnox; standard = p.standards.hcnox } ∷ xs))
+      → ((xs : List Test) → p.figures.co ≡ running 1024 xs → f.co ≡ running 1024 (record { result = results.co; standard = p.standards.co } ∷ xs))
+      → Represents (with-engines p e (p.current + 1) f) (after (Engine number readings results) (progress_of p))
+  engine number readings results e f a te eh eo =
       stepped (Engine number readings results) a _ (rw te) (rw (te, eq-eqb p.period p.period refl) (omega (arith, c.current)))
       (record { hcnox = rw te (eh _ c.figures.hcnox); co = rw te (eo _ c.figures.co) })

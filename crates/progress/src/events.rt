@@ -1,4 +1,4 @@
-// Adding an event.
+// A setup with no events, and the step that an event makes.
 ghost use Rattle.std.specs.Prelude.{◌≡◌, true};
 ghost use Rattle.year.specs.Setup.{setup_in_range};
 ghost use Rattle.year.specs.Replay.{start, after};
@@ -8,104 +8,98 @@ ghost use Rattle.progress.specs.State.{progress_of, Consistent};
 use crate::Progress;
 use cumsum::RESOLUTION;
 use engines::rework::rework;
-use engines::store::{no_engines, with_engine, without_newest};
+use engines::store::{add_engine, no_engines, remove_newest};
+use figures::Running;
+use statistics::Test;
 use year::{Event, Pair, Setup};
 
-// A setup with no events, in range or not.
-pub fn start(setup: Setup) -> Progress
-    ensures year { progress_of result ≡ start setup }
-    ensures consistent { setup_in_range setup ≡ true → Consistent result }
-{
-    let standards = setup.standards;
-    Progress {
-        setup,
-        standards,
-        period: 1,
-        engines: no_engines(),
-        stored: 0,
-        declared: false,
-        current: 0,
-        hcnox: figures::start(),
-        co: figures::start(),
+impl Progress {
+    // A setup with no events, in range or not.
+    pub fn start(setup: Setup) -> Progress
+        ensures year { progress_of result ≡ start setup }
+        ensures consistent { setup_in_range setup ≡ true → Consistent result }
+    {
+        Progress {
+            setup,
+            standards: setup.standards,
+            period: 1,
+            engines: no_engines(),
+            stored: 0,
+            declared: false,
+            current: 0,
+            figures: Pair {
+                hcnox: Running::start(),
+                co: Running::start(),
+            },
+        }
     }
-}
 
-// An engine: it is added to both pollutants' figures under the standards in force.
-fn engine(p: Progress, number: u32, readings: u32, results: Pair) -> Progress
-    requires { Consistent p × (admissible (progress_of p) (Event.Engine number readings results) ≡ true) }
-    ensures year { progress_of result ≡ after (Event.Engine number readings results) (progress_of p) }
-    ensures consistent { Consistent result }
-{
-    let setup = p.setup;
-    let standards = p.standards;
-    let engines = p.engines;
-    let hcnox = p.hcnox;
-    let co = p.co;
-    Progress {
-        setup,
-        standards,
-        period: p.period,
-        engines: with_engine(engines, number, results, standards, p.period),
-        stored: p.stored + 1,
-        declared: p.declared,
-        current: p.current + 1,
-        hcnox: figures::add(hcnox, results.hcnox, standards.hcnox, RESOLUTION),
-        co: figures::add(co, results.co, standards.co, RESOLUTION),
-    }
-}
-
-// A deletion ("strike"): the newest engine goes, and the figures are those of the engines that remain.
-fn deletion(p: Progress) -> Progress
-    requires { Consistent p × (admissible (progress_of p) Event.Deletion ≡ true) }
-    ensures year { progress_of result ≡ after Event.Deletion (progress_of p) }
-    ensures consistent { Consistent result }
-{
-    let rest = without_newest(p.engines);
-    let worked = rework(&rest, RESOLUTION);
-    let hcnox = worked.hcnox;
-    let co = worked.co;
-    Progress {
-        engines: rest,
-        stored: p.stored + 1,
-        current: p.current - 1,
-        hcnox,
-        co,
-        ..p
-    }
-}
-
-// The state with one more event, which must be admissible. `slots::enter_slots` takes the same step in place, its arms in the same order: a change to one must
-// be made to both.
-pub fn after(p: Progress, e: Event) -> Progress
-    requires { Consistent p × (admissible (progress_of p) e ≡ true) }
-    ensures year { progress_of result ≡ after e (progress_of p) }
-    ensures consistent { Consistent result }
-{
-    match e {
-        Event::Engine {
+    // An engine: it is added to both pollutants' figures under the standards in force.
+    fn enter_engine(&mut self, number: u32, readings: u32, results: Pair<u32>)
+        requires { Consistent self.old × (admissible (progress_of self.old) (Event.Engine number readings results) ≡ true) }
+        ensures year { progress_of self.new ≡ after (Event.Engine number readings results) (progress_of self.old) }
+        ensures consistent { Consistent self.new }
+    {
+        let hcnox = Test {
+            result: results.hcnox,
+            standard: self.standards.hcnox,
+        };
+        let co = Test {
+            result: results.co,
+            standard: self.standards.co,
+        };
+        add_engine(
+            &mut self.engines,
             number,
-            readings,
             results,
-        } => engine(p, number, readings, results),
-        Event::Amendment(standards) => {
-            let mut next = p;
-            next.standards = standards;
-            next.stored += 1;
-            next
+            self.standards,
+            self.period,
+        );
+        self.stored += 1;
+        self.current += 1;
+        self.figures.hcnox = self.figures.hcnox.with(hcnox, RESOLUTION);
+        self.figures.co = self.figures.co.with(co, RESOLUTION);
+    }
+
+    // A deletion ("strike"): the newest engine goes, and the figures are those of the engines that remain.
+    fn enter_deletion(&mut self)
+        requires { Consistent self.old × (admissible (progress_of self.old) Event.Deletion ≡ true) }
+        ensures year { progress_of self.new ≡ after Event.Deletion (progress_of self.old) }
+        ensures consistent { Consistent self.new }
+    {
+        remove_newest(&mut self.engines);
+        self.stored += 1;
+        self.current -= 1;
+        let figures = rework(&self.engines, RESOLUTION);
+        self.figures = figures;
+    }
+
+    // One more event, which must be admissible.
+    pub fn enter(&mut self, e: Event)
+        requires { Consistent self.old × (admissible (progress_of self.old) e ≡ true) }
+        ensures year { progress_of self.new ≡ after e (progress_of self.old) }
+        ensures consistent { Consistent self.new }
+    {
+        match e {
+            Event::Engine {
+                number,
+                readings,
+                results,
+            } => self.enter_engine(number, readings, results),
+            Event::Amendment(standards) => {
+                self.standards = standards;
+                self.stored += 1;
+            }
+            Event::NextPeriod => {
+                self.period += 1;
+                self.current = 0;
+                self.stored += 1;
+            }
+            Event::Declaration => {
+                self.declared = true;
+                self.stored += 1;
+            }
+            Event::Deletion => self.enter_deletion(),
         }
-        Event::NextPeriod => {
-            let mut next = p;
-            next.period += 1;
-            next.current = 0;
-            next.stored += 1;
-            next
-        }
-        Event::Declaration => {
-            let mut next = p;
-            next.declared = true;
-            next.stored += 1;
-            next
-        }
-        Event::Deletion => deletion(p),
     }
 }

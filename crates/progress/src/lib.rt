@@ -12,12 +12,11 @@ use year::{Pair, Setup};
 #[derive(Drop)]
 pub struct Progress {
     pub setup: Setup,
-    pub standards: Pair,
+    pub standards: Pair<u32>,
     pub period: u32,
     pub engines: Engines,
     pub stored: u32,
     pub declared: bool,
     pub current: u32,
-    pub hcnox: Running,
-    pub co: Running,
+    pub figures: Pair<Running>,
 }

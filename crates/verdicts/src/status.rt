@@ -13,12 +13,10 @@ pub fn status_of(p: &Progress) -> Status
     requires { Consistent p.now }
     ensures { result ≡ status 1024 (progress_of p.now) }
 {
-    let hcnox = p.hcnox;
-    let co = p.co;
     Status {
-        n: p.engines.count as u32,
-        verdict: verdict(p),
-        hcnox: figures_of(hcnox),
-        co: figures_of(co),
+        n: p.engines.len() as u32,
+        verdict: verdict(p).number(),
+        hcnox: figures_of(p.figures.hcnox),
+        co: figures_of(p.figures.co),
     }
 }

@@ -4,13 +4,15 @@ ghost use Rattle.conditions.specs.Rows.{first};
 ghost use Rattle.year.specs.Periods.{needs};
 ghost use Rattle.year.specs.Verdict.{verdict_table, verdict};
 ghost use Rattle.year.specs.Admissible.{closed};
+ghost use Rattle.verdicts.specs.Numbers.{number_of};
 ghost use Rattle.progress.specs.State.{progress_of, Figured, Consistent, Judged};
 
-use conditions::{both, either};
+use crate::kinds::Verdict;
 use engines::summary::reached;
 use figures::Running;
 use progress::Progress;
 use schedule::{needs, one_percent};
+use year::Pair;
 
 // The first row that applies wins.
 fn first_verdict(
@@ -21,31 +23,31 @@ fn first_verdict(
     reached: bool,
     thirty: bool,
     percent: bool,
-) -> u8
-    ensures { result ≡ first (verdict_table declared failed undecided short reached thirty percent) 1 }
+) -> Verdict
+    ensures { number_of result ≡ first (verdict_table declared failed undecided short reached thirty percent) 1 }
 {
     if declared {
-        return 7;
+        return Verdict::Declared;
     }
     if failed {
-        return 6;
+        return Verdict::Failed;
     }
     if undecided {
-        return 5;
+        return Verdict::Undecided;
     }
     if short {
-        return 0;
+        return Verdict::Short;
     }
     if reached {
-        return 2;
+        return Verdict::SizeReached;
     }
     if thirty {
-        return 3;
+        return Verdict::ThirtyTested;
     }
     if percent {
-        return 4;
+        return Verdict::PercentTested;
     }
-    1
+    Verdict::Testing
 }
 
 // The current period lacks its engines.
@@ -56,27 +58,25 @@ pub fn is_short(current: u32, period: u32) -> bool
 }
 
 // The verdict from the figures of both pollutants at one resolution.
-pub fn verdict_by(p: &Progress, hcnox: Running, co: Running) -> u8
-    requires { Judged p.now hcnox co }
-    ensures { (k : ℕ) → Figured k p.now.engines hcnox co → result ≡ verdict k (progress_of p.now) }
+pub fn verdict_by(p: &Progress, figures: Pair<Running>) -> Verdict
+    requires { Judged p.now figures }
+    ensures { (k : ℕ) → Figured k p.now.engines figures → number_of result ≡ verdict k (progress_of p.now) }
 {
-    let n = p.engines.count as u64;
-    let failed = either(hcnox.failed, co.failed);
-    let undecided = either(hcnox.undecided, co.undecided);
+    let n = p.engines.len() as u64;
+    let failed = figures.hcnox.failed | figures.co.failed;
+    let undecided = figures.hcnox.undecided | figures.co.undecided;
     let short = is_short(p.current, p.period);
-    let stop = both(reached(hcnox), reached(co));
+    let stop = reached(figures.hcnox) & reached(figures.co);
     let percent = one_percent(p.setup.volume) <= n;
     first_verdict(p.declared, failed, undecided, short, stop, 30 <= n, percent)
 }
 
 // The calculator's verdict, at resolution 1,024.
-pub fn verdict(p: &Progress) -> u8
+pub fn verdict(p: &Progress) -> Verdict
     requires { Consistent p.now }
-    ensures { result ≡ verdict 1024 (progress_of p.now) }
+    ensures { number_of result ≡ verdict 1024 (progress_of p.now) }
 {
-    let hcnox = p.hcnox;
-    let co = p.co;
-    verdict_by(p, hcnox, co)
+    verdict_by(p, p.figures)
 }
 
 // The verdict is 6 or 7.
@@ -84,7 +84,5 @@ pub fn closed(p: &Progress) -> bool
     requires { Consistent p.now }
     ensures { result ≡ closed (progress_of p.now) }
 {
-    let hcnox = p.hcnox;
-    let co = p.co;
-    either(p.declared, either(hcnox.failed, co.failed))
+    p.declared | (p.figures.hcnox.failed | p.figures.co.failed)
 }

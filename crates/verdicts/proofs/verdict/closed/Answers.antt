@@ -8,8 +8,8 @@ use Rattle.progress.specs.State.{progress_of, Consistent}
 use Rattle.progress.proofs.Carried.{failed-is}
 use Rattle.verdicts.proofs.verdict.closed.Goals as goal
 
-by_flags : (p : Progress) → Consistent p → (p.declared || (p.hcnox.failed || p.co.failed)) ≡ closed (progress_of p)
-by_flags p c = rw (failed-is p c 1024 Hcnox p.hcnox c.figures.hcnox, failed-is p c 1024 Co p.co c.figures.co) (sym (closed_is (progress_of p)))
+by_flags : (p : Progress) → Consistent p → (p.declared || (p.figures.hcnox.failed || p.figures.co.failed)) ≡ closed (progress_of p)
+by_flags p c = rw (failed-is p c 1024 Hcnox p.figures.hcnox c.figures.hcnox, failed-is p c 1024 Co p.figures.co c.figures.co) (sym (closed_is (progress_of p)))
 
 pub returns : goal.returns
-returns c = rw (c.either-2.ensures, c.either.ensures) (by_flags c.args.p.now c.requires)
+returns c = by_flags c.args.p.now c.requires
