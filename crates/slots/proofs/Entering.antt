@@ -1,18 +1,17 @@
 -- The slots entered one after another: the state after the first j slots, and what one more slot changes.
 use mathlib.Core.Path.{◌≡◌, refl, sym, ap, subst, ◌∙◌}
-use mathlib.Core.Bool.{Bool, true, false, ◌&&◌, true≢false, and-eq-true_iff}
+use mathlib.Core.Bool.{Bool, true, false, ◌&&◌, true≢false, and-false, and-eq-true_iff}
 use mathlib.Core.List.{List}
 use Prim.Native.Nat.{ℕ, zero, suc, ◌+◌, ◌-◌, ◌≤◌, ◌<◌}
 use native.Mathlib.Decide.{dec_lt}
 use native.Mathlib.Numerals.{add-one}
 use native.Mathlib.Omega.{arith}
 use lib.ListN.{length, take, drop}
+use Rattle.std.specs.Prelude.{Some, None}
 use Rattle.buffers.proofs.Lists.{part-from}
 use Rattle.conditions.proofs.Tests.{and-true}
 use Rattle.year.specs.declared.Setup.{Setup}
-use Rattle.year.specs.declared.Pair.{Pair}
 use Rattle.year.specs.declared.Event.{Event}
-use Rattle.year.specs.declared.Event.TheVariants.{Engine, Deletion}
 use Rattle.year.specs.Setup.{setup_in_range}
 use Rattle.year.specs.Replay.{after}
 use Rattle.year.specs.Admissible.{admissible}
@@ -20,10 +19,8 @@ use Rattle.year.specs.Model.{NoSetup, Year}
 use Rattle.journal.specs.Encode.{slot_place}
 use Rattle.journal.specs.Read.{setup_in, event_in, events_in}
 use Rattle.journal.specs.Acceptance.{is_slot, enters_at, enters_up_to}
-use Rattle.engines.proofs.Arrays.{narrow}
 use Rattle.progress.specs.declared.Progress.{Progress as State}
-use Rattle.progress.specs.State.{progress_of, Consistent}
-use Rattle.progress.proofs.Carried.{Room, room, Deletable, deletable}
+use Rattle.progress.specs.State.{progress_of}
 use Rattle.progress.proofs.Steps.{Represents}
 use Rattle.slots.specs.Scanned.{ScannedAs, Entered, entered}
 
@@ -58,58 +55,49 @@ module _ (journal : List ℕ) (n : ℕ) where
   pub stopped : (j : ℕ) → j < n → enters_at journal j ≡ false → entered journal n ≡ NoSetup
   stopped j l f = none-entered (both-fail (setup_in_range (setup_in journal)) (enters_up_to journal n) (later journal j n l f))
 
+  -- no year
+  pub no_year : entered journal n ≡ NoSetup → ScannedAs None (entered journal n)
+  no_year e = rw e (record { accepted = refl; year = tt; consistent = tt })
+
   -- once the last slot is entered, the state is that of the year held
-  pub finished : (j : ℕ) (p : State) → j ≤ n → n ≤ j → Entered journal j p → ScannedAs (record { accepted = true; progress = p }) (entered journal n)
+  pub finished : (j : ℕ) (p : State) → j ≤ n → n ≤ j → Entered journal j p → ScannedAs (Some p) (entered journal n)
   finished j p l m u =
       let same : j ≡ n = omega arith in
       let v = subst (λ k. Entered journal k p) same u in
-      rw (all-entered (and-true v.setup v.enters)) (record { accepted = refl; year = v.stands; consistent = λ _. v.consistent })
+      rw (all-entered (and-true v.setup v.enters)) (record { accepted = refl; year = v.stands; consistent = v.consistent })
 
 -- the code found the setup in the header to be out of range: nothing is entered
 pub no-setup : (journal : List ℕ) (s : Setup) (r : Bool) → s ≡ setup_in journal → r ≡ setup_in_range s → (n : ℕ) → r ≡ false → entered journal n ≡ NoSetup
 no-setup journal s r e t n h = none-entered journal n (rw (sym (ap setup_in_range e) ∙ sym t ∙ h))
 
--- an event that passed both tests of its slot is admissible; for an engine there is room, and for a deletion there is an engine to remove
-passed : (p : State) (slot : Bool) {fits : Bool} {e f : Event} → fits ≡ admissible (progress_of p) e → true ≡ (slot && fits) → e ≡ f → admissible (progress_of p) f ≡ true
-passed p slot {fits} hf t is = rw (← is) (sym hf ∙ ((and-eq-true_iff slot fits).0 (sym t)).1)
+-- one slot, in the state after those before it
+module _ {journal : List ℕ} {j : ℕ} {p : State} (size : length journal ≡ 544) (u : Entered journal j p) where
+  abbrev part : List ℕ
+  part = take (544 - slot_place j) (drop (slot_place j) journal)
 
-module _ (slot : Bool) {fits : Bool} {p : State} {e : Event} (w : Consistent p) (hf : fits ≡ admissible (progress_of p) e) (t : true ≡ (slot && fits)) where
-  pub fit : {number readings : ℕ} {results : Pair ℕ} → e ≡ Engine number readings results → Room p number results
-  fit {number} {readings} {results} is = room p w number readings results (passed p slot hf t is)
+  rest : part ≡ drop (slot_place j) journal
+  rest = rw size at (part-from journal (slot_place j))
 
-  pub small : {number readings : ℕ} {results : Pair ℕ} → e ≡ Engine number readings results
-      → (p.engines.count < 40) × (number ≤ 65535) × (p.period ≤ 4) × (results.hcnox ≤ 20000) × (results.co ≤ 20000) × (p.standards.hcnox ≤ 20000)
-      × (p.standards.co ≤ 20000)
-  small is = narrow (fit is).engine
-
-  pub can : e ≡ Deletion → Deletable p
-  can is = deletable p w (passed p slot hf t is)
-
--- ---- one slot, in which the code found an event e, and tested that it is in the one form and that its event is admissible
-
-module _ {journal : List ℕ} {j : ℕ} {p : State} (u : Entered journal j p) {e : Event} {slot fits : Bool}
-    (he : e ≡ event_in (take (length journal - slot_place j) (drop (slot_place j) journal)))
-    (hs : slot ≡ is_slot (take (length journal - slot_place j) (drop (slot_place j) journal))) (hf : fits ≡ admissible (progress_of p) e) where
-  event-is : e ≡ event_in (drop (slot_place j) journal)
-  event-is = let rest = part-from journal (slot_place j) in rw (← rest) he
-
-  enters-is : (slot && fits) ≡ enters_at journal j
+  entering : enters_at journal j ≡ (is_slot part && admissible (progress_of p) (event_in part))
   unfolding enters_at
-  enters-is = let rest = part-from journal (slot_place j) in rw (hs, hf, he, rest, u.stands)
+  entering = rw (rest, u.stands)
 
-  -- a test failed: the buffer holds no year
-  pub refused : (n : ℕ) → j < n → false ≡ (slot && fits) → entered journal n ≡ NoSetup
-  refused n l t = stopped journal n j l (sym (t ∙ enters-is))
+  -- it is not in the one form: the buffer holds no year
+  pub refused-slot : (n : ℕ) → j < n → is_slot part ≡ false → ScannedAs None (entered journal n)
+  refused-slot n l t = no_year journal n (stopped journal n j l (entering ∙ rw t))
+
+  -- its event is not admissible: neither
+  pub refused-event : (n : ℕ) → j < n → admissible (progress_of p) (event_in part) ≡ false → ScannedAs None (entered journal n)
+  refused-event n l t = no_year journal n (stopped journal n j l (entering ∙ rw t (and-false (is_slot part))))
 
   -- both were passed: a state that represents the year with the event is the next state
-  pub next : {f : Event} → true ≡ (slot && fits) → e ≡ f → (q : State) → (admissible (progress_of p) f ≡ true → Represents q (after f (progress_of p)))
+  pub next : is_slot part ≡ true → admissible (progress_of p) (event_in part) ≡ true → (q : State) → Represents q (after (event_in part) (progress_of p))
       → Entered journal (j + 1) q
-  next {f} t is q law =
-      let represents = law (passed p slot hf t is) in
+  next s t q represents =
       rw (add-one j)
       (record {
         setup = u.setup;
-        enters = (and-eq-true_iff (enters_up_to journal j) (enters_at journal j)).1 (u.enters, sym (t ∙ enters-is));
-        stands = represents.0 ∙ ap (after f) u.stands ∙ rw (← is, event-is);
+        enters = (and-eq-true_iff (enters_up_to journal j) (enters_at journal j)).1 (u.enters, entering ∙ and-true s t);
+        stands = represents.0 ∙ ap (λ (e : Event). after e (progress_of p)) (ap event_in rest) ∙ ap (after (event_in (drop (slot_place j) journal))) u.stands;
         consistent = represents.1;
       })

@@ -1,5 +1,5 @@
--- The result of scanning a buffer: whether it is an accepted journal, and the state of the year that it is read as.
-use Rattle.std.specs.Prelude.{◌≡◌, true, cond, not, ◌&&◌, List, ℕ}
+-- The result of scanning a buffer: the state of the year that it is read as, if it is an accepted journal.
+use Rattle.std.specs.Prelude.{◌≡◌, true, cond, not, ◌&&◌, List, ℕ, Option, is_some, IfSome}
 use Rattle.year.specs.declared.Setup.{Setup}
 use Rattle.year.specs.Setup.{setup_in_range}
 use Rattle.year.specs.Replay.{Progress, start, replay}
@@ -8,7 +8,6 @@ use Rattle.journal.specs.Read.{setup_in, events_in}
 use Rattle.journal.specs.Acceptance.{enters_up_to}
 use Rattle.progress.specs.declared.Progress.{Progress as State}
 use Rattle.progress.specs.State.{progress_of, Consistent}
-use Rattle.slots.specs.declared.Scanned.{Scanned}
 
 -- a setup of zeros, which is out of range
 abbrev pub zero_setup : Setup
@@ -24,11 +23,11 @@ abbrev pub replayed : Model → Progress
 replayed NoSetup = start zero_setup
 replayed (Year s es) = replay s es
 
-pub record ScannedAs (r : Scanned) (model : Model) : Type 0 where
-  pub accepted : r.accepted ≡ not (no_setup model)
-  pub year : progress_of r.progress ≡ replayed model
-  -- for an accepted journal, what the state carries along agrees with its year
-  pub consistent : r.accepted ≡ true → Consistent r.progress
+-- there is a state exactly if there is a year; it represents that year, and what it carries along agrees with it
+pub record ScannedAs (r : Option State) (model : Model) : Type 0 where
+  pub accepted : is_some r ≡ not (no_setup model)
+  pub year : IfSome r (λ p. progress_of p ≡ replayed model)
+  pub consistent : IfSome r Consistent
 
 -- the setup and the events of the first slots, if they could have been entered in that order
 unfoldable pub entered : List ℕ → ℕ → Model
