@@ -1,2 +1,1 @@
-pub mod Printed
-pub mod Column
+pub mod Marked

@@ -1,0 +1,38 @@
+use Rattle.std.proofs.Common.{arith}
+use Rattle.std.proofs.lemmas.List.{take_more}
+use Rattle.year.specs.Setup.{Hcnox, Co}
+use Rattle.engines.proofs.Newest.{room}
+use Rattle.printing.proofs.Marked.{engines-few, next}
+use Rattle.printing.proofs.marks_of.Goals as goal
+
+pub with-hcnox-requires : goal.with-hcnox-requires
+with-hcnox-requires c =
+    let xs = c.args.engines.now in
+    let i = c.loop-x.x-index in
+    rw c.tests-tests.ensures.hcnox
+    (room Hcnox xs c.args.resolution i _ c.loop-x.hcnox (take_more xs i _ c.loop-x-test.true) c.requires.fine
+    (c.requires.histories Hcnox) c.loop-x.invariant.hcnox)
+
+pub with-co-requires : goal.with-co-requires
+with-co-requires c =
+    let xs = c.args.engines.now in
+    let i = c.loop-x.x-index in
+    rw c.tests-tests.ensures.co
+    (room Co xs c.args.resolution i _ c.loop-x.co (take_more xs i _ c.loop-x-test.true) c.requires.fine
+    (c.requires.histories Co) c.loop-x.invariant.co)
+
+pub push-requires : goal.push-requires
+push-requires c = omega (arith, engines-few c.args.engines.now (c.requires.histories Hcnox))
+
+pub push-requires-in-loop-x : goal.push-requires-in-loop-x
+push-requires-in-loop-x c = omega (arith, engines-few c.args.engines.now (c.requires.histories Hcnox))
+
+pub loop-x-preserved : goal.loop-x-preserved
+loop-x-preserved c =
+    let xs = c.args.engines.now in
+    let i = c.loop-x.x-index in
+    let r =
+    next c.args.resolution xs i _ (take_more xs i _ c.loop-x-test.true) c.with-hcnox.result c.with-co.result c.push-in-loop-x.new.self.items
+    (rw c.tests-tests.ensures.hcnox at (c.with-hcnox.ensures _ c.loop-x.invariant.hcnox)) (rw c.tests-tests.ensures.co at (c.with-co.ensures _ c.loop-x.invariant.co))
+    (cc) in
+    record { hcnox = r.0; co = r.1; marked = r.2; two_each = omega (arith, c.push.ensures.len, c.push-in-loop-x.ensures.len) }
