@@ -39,7 +39,7 @@ pub fn scan_journal(journal: &[u8]) -> Scanned
         return no_journal();
     }
     let unused = 32 + 8 * count;
-    let front = both(is_header(journal), is_version(journal, count));
+    let front = both(is_header(journal), is_version(journal.as_array().unwrap(), count));
     if !both(front, is_zero(&journal[unused..])) {
         return no_journal();
     }
