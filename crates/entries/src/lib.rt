@@ -31,7 +31,7 @@ pub fn set_up(journal: &mut [u8], s: Setup) -> Answer
     if refused != 0 {
         return Answer::Refused(refused);
     }
-    write_setup(journal, s);
+    write_setup(journal.as_mut_array().unwrap(), s);
     Answer::Accepted(status_of(&start(s)))
 }
 
@@ -43,7 +43,7 @@ fn enter(journal: &mut [u8], p: Progress, decision: Decision) -> Answer
 {
     match decision {
         Decision::Add(e) => {
-            append(journal, e);
+            append(journal.as_mut_array().unwrap(), e);
             Answer::Accepted(status_of(&after(p, e)))
         }
         Decision::Refuse(number) => Answer::Refused(number),

@@ -1,40 +1,64 @@
 -- The tests of each kind of slot, on a part that starts with a slot.
-use mathlib.Core.Path.{◌≡◌, refl}
-use mathlib.Core.Bool.{Bool, true, false, cond, ◌&&◌, ◌||◌, and-true}
+use mathlib.Core.Path.{◌≡◌, sym, ◌∙◌}
+use mathlib.Core.Bool.{true, false, ◌&&◌, and-true}
 use mathlib.Core.List.{List}
 use Prim.Native.Nat.{ℕ, ◌≤◌}
 use native.Mathlib.Omega.{arith}
 use lib.Dec.{eqb}
 use lib.ListN.{length, get_or, take, drop}
-use borrow.Author.Tests.{ne_eqb, eqb-true}
-use Rattle.buffers.specs.Bytes.{same, is_zero}
-use Rattle.conditions.proofs.Tests.{eqb_refl, eqb-sym}
+use borrow.Author.Tests.{ne_eqb}
+use Rattle.buffers.specs.Bytes.{is_zero}
+use Rattle.conditions.proofs.Tests.{eqb_refl}
 use Rattle.buffers.proofs.Lists.{part-elements}
 use Rattle.buffers.proofs.LittleEndian.{Bytes, low, high}
-use Rattle.year.specs.declared.Event.TheVariants.{NextPeriod, Declaration, Deletion}
-use Rattle.journal.specs.Encode.{slot_of}
 use Rattle.journal.specs.Acceptance.{is_slot}
 
 module _ (part : List ℕ) (bytes : Bytes part) (long : 8 ≤ length part) where
-  pub engine-slot : get_or part 0 0 ≡ 1 → is_slot part ≡ true
-  unfolding is_slot
-  engine-slot e = rw (part-elements part 0 8 long, e) (simp (low part bytes, high part bytes, eqb_refl))
+  abbrev kind : ℕ
+  kind = get_or part 0 0
 
-  pub amendment-slot : get_or part 0 0 ≡ 2 → (is_zero (take 1 (drop 1 part)) && is_zero (take 2 (drop 6 part))) ≡ is_slot part
+  pub engine_slot : kind ≡ 1 → is_slot part ≡ true
   unfolding is_slot
-  amendment-slot e =
-      rw (part-elements part 0 8 long, part-elements part 1 1 (omega arith), part-elements part 6 2 (omega arith), e)
+  engine_slot e = rw (part-elements part 0 8 long, e) (simp (low part bytes, high part bytes, eqb_refl))
+
+  amendment : kind ≡ 2 → (eqb 0 (get_or part 1 0) && is_zero (take 2 (drop 6 part))) ≡ is_slot part
+  unfolding is_slot
+  amendment e =
+      rw (part-elements part 0 8 long, part-elements part 6 2 (omega arith), e)
       (simp (low part bytes, high part bytes, eqb_refl, and-true))
 
-  -- after kinds 1 and 2: kind 3 is a next period, kind 5 a deletion, and any other kind is read as a declaration
-  last-three : (t u : Bool) → eqb (get_or part 0 0) 3 ≡ t → eqb (get_or part 0 0) 5 ≡ u
-      → ((t || u || eqb (get_or part 0 0) 4) && is_zero (take 7 (drop 1 part))) ≡ same (slot_of (cond t NextPeriod (cond u Deletion Declaration))) (take 8 part)
-  last-three true u h k = rw (part-elements part 0 8 long, part-elements part 1 7 (omega arith), eqb-true (get_or part 0 0) 3 h)
-  last-three false true h k = rw (part-elements part 0 8 long, part-elements part 1 7 (omega arith), eqb-true (get_or part 0 0) 5 k)
-  last-three false false h k = rw (part-elements part 0 8 long, part-elements part 1 7 (omega arith), eqb-sym (get_or part 0 0) 4)
+  -- byte 1 of an amendment is not named
+  pub amendment_slot : kind ≡ 2 → get_or part 1 0 ≡ 0 → is_zero (take 2 (drop 6 part)) ≡ is_slot part
+  amendment_slot e z = rw z at amendment e
 
-  pub other-slot : (get_or part 0 0 ≡ 1 → ⊥) → (get_or part 0 0 ≡ 2 → ⊥)
-      → ((eqb (get_or part 0 0) 3 || eqb (get_or part 0 0) 5 || eqb (get_or part 0 0) 4) && is_zero (take 7 (drop 1 part))) ≡ is_slot part
+  pub not_amendment : kind ≡ 2 → (get_or part 1 0 ≡ 0 → ⊥) → is_slot part ≡ false
+  not_amendment e z = sym (amendment e) ∙ rw (ne_eqb 0 (get_or part 1 0) (λ k. z (sym k)))
+
+  bare_3 : kind ≡ 3 → is_zero (take 7 (drop 1 part)) ≡ is_slot part
   unfolding is_slot
-  other-slot p q =
-      rw (ne_eqb (get_or part 0 0) 1 p, ne_eqb (get_or part 0 0) 2 q) (last-three (eqb (get_or part 0 0) 3) (eqb (get_or part 0 0) 5) refl refl)
+  bare_3 e = rw (part-elements part 0 8 long, part-elements part 1 7 (omega arith), e)
+
+  bare_4 : kind ≡ 4 → is_zero (take 7 (drop 1 part)) ≡ is_slot part
+  unfolding is_slot
+  bare_4 e = rw (part-elements part 0 8 long, part-elements part 1 7 (omega arith), e)
+
+  bare_5 : kind ≡ 5 → is_zero (take 7 (drop 1 part)) ≡ is_slot part
+  unfolding is_slot
+  bare_5 e = rw (part-elements part 0 8 long, part-elements part 1 7 (omega arith), e)
+
+  -- kinds 3, 4 and 5 have no further bytes
+  pub bare_slot : 3 ≤ kind → kind ≤ 5 → is_zero (take 7 (drop 1 part)) ≡ is_slot part
+  bare_slot l h = grind (arith, bare_3, bare_4, bare_5)
+
+  -- any other kind is read as a declaration, which is kind 4
+  pub no_slot : (kind ≡ 1 → ⊥) → (kind ≡ 2 → ⊥) → (3 ≤ kind → kind ≤ 5 → ⊥) → is_slot part ≡ false
+  unfolding is_slot
+  no_slot one two bare =
+      rw (
+        part-elements part 0 8 long,
+        ne_eqb kind 1 one,
+        ne_eqb kind 2 two,
+        ne_eqb kind 3 (λ e. bare (omega arith) (omega arith)),
+        ne_eqb kind 5 (λ e. bare (omega arith) (omega arith)),
+        ne_eqb 4 kind (λ e. bare (omega arith) (omega arith)),
+      )

@@ -7,52 +7,40 @@ ghost use Rattle.journal.specs.Acceptance.{is_slot};
 
 use buffers::little_endian::number16;
 use buffers::parts::is_zero;
-use conditions::{both, either};
 use year::{Event, Pair};
 
-// The event in the slot at the front of a part.
+// The event in the slot at the front of a part. A kind that no event has is read as a declaration; `is_slot` refuses it.
 pub fn event_at(part: &[u8]) -> Event
     requires { 8 ≤ length part.now }
     ensures { result ≡ event_in part.now }
 {
-    let kind = part[0];
     let pair = Pair {
         hcnox: number16(part, 2),
         co: number16(part, 4),
     };
-    let number = number16(part, 6);
-    let readings = part[1] as u32;
-    if kind == 1 {
-        return Event::Engine {
-            number,
-            readings,
+    match part[0] {
+        1 => Event::Engine {
+            number: number16(part, 6),
+            readings: u32::from(part[1]),
             results: pair,
-        };
+        },
+        2 => Event::Amendment(pair),
+        3 => Event::NextPeriod,
+        5 => Event::Deletion,
+        _ => Event::Declaration,
     }
-    if kind == 2 {
-        return Event::Amendment(pair);
-    }
-    if kind == 3 {
-        return Event::NextPeriod;
-    }
-    if kind == 5 {
-        return Event::Deletion;
-    }
-    Event::Declaration
 }
 
 // Whether the slot at the front of a part has a named kind, and its unnamed bytes are zero.
+#[tactic(auto, using(crate::proofs::Slots::engine_slot, crate::proofs::Slots::amendment_slot, crate::proofs::Slots::not_amendment, crate::proofs::Slots::bare_slot, crate::proofs::Slots::no_slot))]
 pub fn is_slot(part: &[u8]) -> bool
     requires { 8 ≤ length part.now }
     ensures { result ≡ is_slot part.now }
 {
-    let kind = part[0];
-    if kind == 1 {
-        return true;
+    match part[0] {
+        1 => true,
+        2 => part[1] == 0 && is_zero(&part[6..8]),
+        3..=5 => is_zero(&part[1..8]),
+        _ => false,
     }
-    if kind == 2 {
-        return both(is_zero(&part[1..2]), is_zero(&part[6..8]));
-    }
-    let bare = either(either(kind == 3, kind == 5), kind == 4);
-    both(bare, is_zero(&part[1..8]))
 }

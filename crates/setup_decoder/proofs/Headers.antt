@@ -15,9 +15,9 @@ use Rattle.setup_decoder.specs.Parts.{is_start}
 
 module _ (journal : List ℕ) (long : 32 ≤ length journal) where
   -- the code's tests of the whole header are the definition
-  pub header-tests : Bytes journal → (is_start journal && is_zero (take 3 (drop 5 journal)) && is_zero (take 7 (drop 25 journal))) ≡ is_header journal
+  pub header_tests : Bytes journal → (is_start journal && is_zero (take 3 (drop 5 journal)) && is_zero (take 7 (drop 25 journal))) ≡ is_header journal
   unfolding is_header
-  header-tests bytes =
+  header_tests bytes =
       rw (
         part-elements journal 0 32 long,
         part-elements journal 0 3 (omega arith),

@@ -1,38 +1,38 @@
 // A setup written over all bytes of a journal.
 #![tactic(auto)]
 
-ghost use Rattle.std.specs.Prelude.{◌≡◌, [], length};
-ghost use Rattle.journal.specs.Encode.{setup_version, encode};
+ghost use Rattle.std.specs.Prelude.{◌≡◌, []};
+ghost use Rattle.journal.specs.Encode.{setup_version, header, encode};
 ghost use Rattle.setup_encoder.specs.Fits.{SetupFits};
 
-use buffers::little_endian::{paired, write_numbers};
-use buffers::parts::{clear, write_eight};
+use buffers::little_endian::{bytes16, bytes32};
+use journal::JOURNAL_SIZE;
 use year::Setup;
 
+// The first 32 bytes: "PLT", version 1, the setup, and no events.
+fn header(s: Setup) -> [u8; 32]
+    requires { SetupFits s }
+    ensures { result ≡ header setup_version s 0 }
+{
+    let mut header = [0; 32];
+    header[0..3].copy_from_slice(b"PLT");
+    header[3] = 1;
+    header[8..12].copy_from_slice(&bytes32(s.volume));
+    header[12..14].copy_from_slice(&bytes16(s.days));
+    header[14..16].copy_from_slice(&bytes16(s.standards.hcnox));
+    header[16..18].copy_from_slice(&bytes16(s.standards.co));
+    header[18] = s.factors.hcnox.kind as u8;
+    header[19] = s.factors.co.kind as u8;
+    header[20..22].copy_from_slice(&bytes16(s.factors.hcnox.value));
+    header[22..24].copy_from_slice(&bytes16(s.factors.co.value));
+    header
+}
+
 // Writes all 544 bytes of a setup with no events, in version 1, whatever the buffer held.
-pub fn write_setup(journal: &mut [u8], s: Setup)
-    requires { (length journal.old ≡ 544) × SetupFits s }
+pub fn write_setup(journal: &mut [u8; JOURNAL_SIZE], s: Setup)
+    requires { SetupFits s }
     ensures { journal.new ≡ encode setup_version s [] }
 {
-    let volume = s.volume;
-    let standards = s.standards;
-    let hcnox = s.factors.hcnox;
-    let co = s.factors.co;
-    let kinds = paired(hcnox.kind, co.kind);
-    clear(journal);
-    write_eight(&mut journal[0..8], b'P', b'L', b'T', 1, 0, 0, 0, 0);
-    write_numbers(
-        &mut journal[8..16],
-        volume,
-        volume / 65536,
-        s.days,
-        standards.hcnox,
-    );
-    write_numbers(
-        &mut journal[16..24],
-        standards.co,
-        kinds,
-        hcnox.value,
-        co.value,
-    );
+    journal.fill(0);
+    journal[..32].copy_from_slice(&header(s));
 }

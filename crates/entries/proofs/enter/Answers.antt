@@ -1,3 +1,4 @@
+use Rattle.std.proofs.Common.{◌≡◌, rules}
 use Rattle.event_encoder.proofs.Fits.{event-fits}
 use Rattle.progress.specs.State.{progress_of}
 use Rattle.entries.specs.Entering.{CanAdd}
@@ -6,4 +7,5 @@ use Rattle.entries.proofs.enter.Goals as goal
 pub append-requires : goal.append-requires
 append-requires c =
     let can : CanAdd c.args.journal.now c.args.p c.in-Add.e = rw c.in-Add.is at c.requires in
-    (can.size, can.room, event-fits (progress_of c.args.p) _ can.admitted)
+    let same : c.unwrap.result.now ≡ c.args.journal.now = search rules in
+    (rw same can.room, event-fits (progress_of c.args.p) _ can.admitted)

@@ -10,8 +10,11 @@ returns-then-refused-ne0 c =
     let r = refused (SetUp c.args.s) c.args.journal.now c.setup_refusal-refused.result c.setup_refusal-refused.ensures c.if-refused-ne0.true in
     record { answer = r.0; outcome = r.1.0; journal_after = r.1.1 }
 
+pub unwrap-requires : goal.unwrap-requires
+unwrap-requires c = c.as_mut_array.ensures.variant.1 (setup-writable c.args.s c.args.journal.now (sym c.setup_refusal-refused.ensures ∙ c.if-refused-ne0.false)).0
+
 pub write_setup-requires : goal.write_setup-requires
-write_setup-requires c = setup-writable c.args.s c.args.journal.now (sym c.setup_refusal-refused.ensures ∙ c.if-refused-ne0.false)
+write_setup-requires c = (setup-writable c.args.s c.args.journal.now (sym c.setup_refusal-refused.ensures ∙ c.if-refused-ne0.false)).1
 
 pub status_of-requires : goal.status_of-requires
 status_of-requires c = c.start.ensures.consistent (setup-ready c.args.s c.args.journal.now (sym c.setup_refusal-refused.ensures ∙ c.if-refused-ne0.false))
