@@ -9,35 +9,35 @@ use Rattle.buffers.specs.Bytes.{is_zero}
 use Rattle.buffers.proofs.Lists.{part-from}
 use Rattle.conditions.proofs.Tests.{and-true}
 use Rattle.year.specs.Setup.{setup_in_range}
-use Rattle.year.specs.Model.{NoSetup}
 use Rattle.journal.specs.Encode.{slot_place}
 use Rattle.journal.specs.Read.{setup_in, read_journal}
 use Rattle.journal.specs.Acceptance.{is_header, is_version, enters_up_to}
 use Rattle.journal.proofs.Exactly.{acceptable-read, not-acceptable}
-use Rattle.slots.specs.Scanned.{entered}
-use Rattle.slots.proofs.Entering.{none-entered, all-entered}
+use Rattle.std.specs.Prelude.{None}
+use Rattle.slots.specs.Scanned.{ScannedAs, entered}
+use Rattle.slots.proofs.Entering.{no_year, none-entered, all-entered}
 
 module _ (journal : List ℕ) where
   abbrev count : ℕ
   count = get_or journal 24 0
 
-  pub other_size : (length journal ≡ 544 → ⊥) → read_journal journal ≡ NoSetup
-  other_size f = not-acceptable journal (λ p. f p.size)
+  pub other_size : (length journal ≡ 544 → ⊥) → ScannedAs None (read_journal journal)
+  other_size f = no_year (not-acceptable journal (λ p. f p.size))
 
-  pub too_many : 64 < count → read_journal journal ≡ NoSetup
-  too_many h = not-acceptable journal (λ p. omega (arith, p.count))
+  pub too_many : 64 < count → ScannedAs None (read_journal journal)
+  too_many h = no_year (not-acceptable journal (λ p. omega (arith, p.count)))
 
-  module _ (header version zero : Bool) (eh : header ≡ is_header journal) (ev : version ≡ is_version journal count)
-      (ez : zero ≡ is_zero (take (length journal - slot_place count) (drop (slot_place count) journal))) where
+  module _ (n : length journal ≡ 544) (header version zero : Bool) (eh : header ≡ is_header journal) (ev : version ≡ is_version journal count)
+      (ez : zero ≡ is_zero (take (544 - slot_place count) (drop (slot_place count) journal))) where
     unused-is : zero ≡ is_zero (drop (slot_place count) journal)
-    unused-is = rw (part-from journal (slot_place count)) at ez
+    unused-is = rw (rw n at (part-from journal (slot_place count))) at ez
 
-    pub other-bytes : (header && version && zero) ≡ false → read_journal journal ≡ NoSetup
+    pub other-bytes : ((header && version) && zero) ≡ false → ScannedAs None (read_journal journal)
     other-bytes h =
-        not-acceptable journal (λ p. true≢false (sym (and-true (and-true (eh ∙ p.header) (ev ∙ p.version)) (unused-is ∙ p.unused)) ∙ h))
+        no_year (not-acceptable journal (λ p. true≢false (sym (and-true (and-true (eh ∙ p.header) (ev ∙ p.version)) (unused-is ∙ p.unused)) ∙ h)))
 
-    pub by-events : length journal ≡ 544 → count ≤ 64 → (header && version && zero) ≡ true → entered journal count ≡ read_journal journal
-    by-events n few h = by (setup_in_range (setup_in journal)) (enters_up_to journal count) refl refl
+    pub by-events : count ≤ 64 → ((header && version) && zero) ≡ true → entered journal count ≡ read_journal journal
+    by-events few h = by (setup_in_range (setup_in journal)) (enters_up_to journal count) refl refl
       where
         parts : ((header && version) ≡ true) × (zero ≡ true)
         parts = (and-eq-true_iff (header && version) zero).0 h

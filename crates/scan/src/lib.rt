@@ -25,11 +25,10 @@ fn scan_events(journal: &[u8; JOURNAL_SIZE], count: usize) -> Option<Progress>
     enter_slots(journal, count, Progress::start(setup))
 }
 
-// Reads a whole buffer: tests its size, header, version and unused slots, and then enters its events.
-pub fn scan_journal(journal: &[u8]) -> Option<Progress>
+// Reads a buffer of a journal's size: tests its header, version and unused slots, and then enters its events.
+fn scan_bytes(journal: &[u8; JOURNAL_SIZE]) -> Option<Progress>
     ensures { ScannedAs result (read_journal journal.now) }
 {
-    let journal: &[u8; JOURNAL_SIZE] = journal.as_array()?;
     let count = journal[24] as usize;
     if SLOTS < count {
         return None;
@@ -41,4 +40,15 @@ pub fn scan_journal(journal: &[u8]) -> Option<Progress>
         return None;
     }
     scan_events(journal, count)
+}
+
+// Reads a whole buffer, whatever its size.
+#[tactic(auto, using(crate::proofs::Whole::other_size))]
+pub fn scan_journal(journal: &[u8]) -> Option<Progress>
+    ensures { ScannedAs result (read_journal journal.now) }
+{
+    match journal.as_array() {
+        Some(whole) => scan_bytes(whole),
+        None => None,
+    }
 }

@@ -15,7 +15,7 @@ use Rattle.year.specs.declared.Event.{Event}
 use Rattle.year.specs.Setup.{setup_in_range}
 use Rattle.year.specs.Replay.{after}
 use Rattle.year.specs.Admissible.{admissible}
-use Rattle.year.specs.Model.{NoSetup, Year}
+use Rattle.year.specs.Model.{Model, NoSetup, Year}
 use Rattle.journal.specs.Encode.{slot_place}
 use Rattle.journal.specs.Read.{setup_in, event_in, events_in}
 use Rattle.journal.specs.Acceptance.{is_slot, enters_at, enters_up_to}
@@ -42,6 +42,10 @@ both-fail true true f = absurd (f refl)
 both-fail true false f = refl
 both-fail false b f = refl
 
+-- no state, where there is no year
+pub no_year : {model : Model} → model ≡ NoSetup → ScannedAs None model
+no_year e = rw e (record { accepted = refl; year = tt; consistent = tt })
+
 module _ (journal : List ℕ) (n : ℕ) where
   pub none-entered : (setup_in_range (setup_in journal) && enters_up_to journal n) ≡ false → entered journal n ≡ NoSetup
   unfolding entered
@@ -54,10 +58,6 @@ module _ (journal : List ℕ) (n : ℕ) where
   -- with a slot that does not enter, the buffer holds no year
   pub stopped : (j : ℕ) → j < n → enters_at journal j ≡ false → entered journal n ≡ NoSetup
   stopped j l f = none-entered (both-fail (setup_in_range (setup_in journal)) (enters_up_to journal n) (later journal j n l f))
-
-  -- no year
-  pub no_year : entered journal n ≡ NoSetup → ScannedAs None (entered journal n)
-  no_year e = rw e (record { accepted = refl; year = tt; consistent = tt })
 
   -- once the last slot is entered, the state is that of the year held
   pub finished : (j : ℕ) (p : State) → j ≤ n → n ≤ j → Entered journal j p → ScannedAs (Some p) (entered journal n)
@@ -84,11 +84,11 @@ module _ {journal : List ℕ} {j : ℕ} {p : State} (size : length journal ≡ 5
 
   -- it is not in the one form: the buffer holds no year
   pub refused-slot : (n : ℕ) → j < n → is_slot part ≡ false → ScannedAs None (entered journal n)
-  refused-slot n l t = no_year journal n (stopped journal n j l (entering ∙ rw t))
+  refused-slot n l t = no_year (stopped journal n j l (entering ∙ rw t))
 
   -- its event is not admissible: neither
   pub refused-event : (n : ℕ) → j < n → admissible (progress_of p) (event_in part) ≡ false → ScannedAs None (entered journal n)
-  refused-event n l t = no_year journal n (stopped journal n j l (entering ∙ rw t (and-false (is_slot part))))
+  refused-event n l t = no_year (stopped journal n j l (entering ∙ rw t (and-false (is_slot part))))
 
   -- both were passed: a state that represents the year with the event is the next state
   pub next : is_slot part ≡ true → admissible (progress_of p) (event_in part) ≡ true → (q : State) → Represents q (after (event_in part) (progress_of p))
