@@ -1,5 +1,6 @@
 -- The refusals by name and by number: each number of the table has a name, and what a test or a call gives back tells whether it is refused.
-use Rattle.std.proofs.Common.{◌≡◌, ◌≢◌, ◌∙◌, ap, sym, List, [], ◌∷◌, ℕ, ◌≤◌, refl, arith}
+use Rattle.std.proofs.Common.{Result, IsErrAnd, ◌≡◌, ◌≢◌, ◌∙◌, ap, sym, List, [], ◌∷◌, ℕ, ◌≤◌, refl, arith}
+use Rattle.std.proofs.lemmas.Result.{err_from_is_err_and}
 use mathlib.Core.Bool.{Bool, true, false, cond}
 use lib.Dec.{eqb}
 use lib.ListN.{length}
@@ -39,7 +40,7 @@ named_again NoNextPeriod = refl
 named_again OutputSize = refl
 named_again NothingToDelete = refl
 
-above_0 : (r : Refusal) → 1 ≤ number_of r
+pub above_0 : (r : Refusal) → 1 ≤ number_of r
 above_0 r = grind arith
 
 at_most_17 : (r : Refusal) → number_of r ≤ 17
@@ -70,12 +71,16 @@ named-refusal call journal h =
 
 -- ---- what is given back
 
+-- a refusal with a number is what that number names
+pub err_named : (r : Refusal) (number : ℕ) → number_of r ≡ number → r ≡ named number
+err_named r number e = sym (named_again r) ∙ ap named e
+
 module _ {A : Type 0} (number : ℕ) (value : A) where
   -- a refusal with this number
   pub err-gives : (r : Refusal) → number_of r ≡ number → Err r ≡ unless_refused number value
   err-gives r e =
       let f : number ≢ 0 = omega (arith, e, above_0 r) in
-      rw (ne_eqb number 0 f) (ap Err (sym (named_again r) ∙ ap named e))
+      rw (ne_eqb number 0 f) (ap Err (err_named r number e))
 
   -- accepted, with this value; or refused, by the refusal of this number
   pub ok-means : (x : A) → Ok x ≡ unless_refused number value → (number ≡ 0) × (x ≡ value)
@@ -91,3 +96,7 @@ module _ {A : Type 0} (number : ℕ) (value : A) where
       by : (b : Bool) → eqb number 0 ≡ b → Err r ≡ cond b (Ok value) (Err (named number)) → number ≢ 0
       by true h k = absurd (grind arith)
       by false h k = eqb-false number 0 h
+
+-- what a `?` hands on is the refusal that it met
+pub handed-on : {A : Type 0} {r want : Result A Refusal} {e : Refusal} → IsErrAnd r (λ d. d ≡ e) → Err e ≡ want → r ≡ want
+handed-on {r = r} h k = let p = err_from_is_err_and r h in p.1 ∙ ap Err p.2 ∙ k

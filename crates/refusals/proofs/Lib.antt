@@ -1,3 +1,3 @@
 pub mod ScannedYear
-pub mod Parts
 pub mod Decided
+mod Marks
