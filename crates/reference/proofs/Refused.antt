@@ -90,12 +90,12 @@ module _ {A : Type 0} (number : ℕ) (value : A) where
       by true h k = (eqb-true number 0 h, grind arith)
       by false h k = absurd (grind arith)
 
-  pub err-means : (r : Refusal) → Err r ≡ unless_refused number value → number ≢ 0
+  pub err-means : (r : Refusal) → Err r ≡ unless_refused number value → (number ≢ 0) × (r ≡ named number)
   err-means r e = by (eqb number 0) refl e
     where
-      by : (b : Bool) → eqb number 0 ≡ b → Err r ≡ cond b (Ok value) (Err (named number)) → number ≢ 0
+      by : (b : Bool) → eqb number 0 ≡ b → Err r ≡ cond b (Ok value) (Err (named number)) → (number ≢ 0) × (r ≡ named number)
       by true h k = absurd (grind arith)
-      by false h k = eqb-false number 0 h
+      by false h k = (eqb-false number 0 h, grind arith)
 
 -- what a `?` hands on is the refusal that it met
 pub handed-on : {A : Type 0} {r want : Result A Refusal} {e : Refusal} → IsErrAnd r (λ d. d ≡ e) → Err e ≡ want → r ≡ want

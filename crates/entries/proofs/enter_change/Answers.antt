@@ -1,16 +1,24 @@
 use Rattle.reference.specs.Call.{EnterChange}
-use Rattle.entries.proofs.Entered.{enterable, entered}
+use Rattle.refusals.proofs.ScannedYear.{scanned_stands}
+use Rattle.entries.proofs.Entered.{finds-year, declined, can-add, entered}
 use Rattle.entries.proofs.enter_change.Goals as goal
+
+pub returns-in_err-event : goal.returns-in_err-event
+returns-in_err-event c =
+    let h = c.in_err-event in
+    declined (EnterChange c.args.c) c.args.journal.now h.field-0.0 h.ensures c.from_residual.ensures.1
 
 pub enter-requires : goal.enter-requires
 enter-requires c =
-    let d = c.change-decision in
+    let entry = (EnterChange c.args.c) in
     let s = c.scan_journal-scanned in
-    enterable (EnterChange c.args.c) c.args.journal.now s.result s.ensures d.result d.ensures
+    let d = c.in_ok-event in
+    can-add entry c.args.journal.now s.result.progress (scanned_stands s.result _ s.ensures (finds-year entry c.args.journal.now _ d.ensures)) _ d.ensures
 
 pub returns : goal.returns
 returns c =
-    let d = c.change-decision in
+    let entry = (EnterChange c.args.c) in
     let s = c.scan_journal-scanned in
-    let r = entered (EnterChange c.args.c) c.args.journal.now s.result s.ensures d.result d.ensures c.enter.result c.enter.new.journal c.enter.ensures.answer c.enter.ensures.journal_after in
-    record { answer = r.0; outcome = r.1.0; journal_after = r.1.1 }
+    let d = c.in_ok-event in
+    let year = scanned_stands s.result _ s.ensures (finds-year entry c.args.journal.now _ d.ensures) in
+    entered entry c.args.journal.now s.result.progress year _ d.ensures _ _ c.enter.ensures.status c.enter.ensures.journal_after
