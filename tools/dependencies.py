@@ -3,7 +3,7 @@
 
 Run from the repository's root. A crate uses the crates that its code, definitions and proofs name: in code at the front of a path, as in year::Setup; in all three
 as Rattle.year.specs. It also uses the crates of types that it meets without naming them, since a proof has to know how they are
-defined: the types in the signature of a function that it names, and those of a type's fields.
+defined: the types in the signature of a function that it names, those of a type's fields and of the signatures of its methods, and what an alias stands for.
 With --write, wrong lists are rewritten, in the order of the crates in crates.txt.
 """
 import re
@@ -11,7 +11,7 @@ import sys
 from glob import glob
 
 # Crates of the kit that may be listed.
-KIT = ['check', 'bytes', 'io']
+KIT = ['arrayvec', 'check', 'bytes', 'io']
 
 
 def read(path):
@@ -30,11 +30,15 @@ class Module:
         # name → (crate, name), for every path in the file
         self.imports = {p.split('::')[-1]: (crate if p.startswith('crate::') else p.split('::')[0], p.split('::')[-1]) for p in paths}
         self.items = {}
-        declared = re.findall(r'(?:struct|enum) (\w+)(.*?\n\}|\(.*?\);)', text, re.S)
+        declared = re.findall(r'(?:struct|enum) (\w+)(.*?\n\}|\(.*?\);)', text, re.S) + re.findall(r'\btype (\w+) = (.*?;)', text, re.S)
         signatures = re.findall(r'fn (\w+)(\(.*?\)[^{]*?)(?=\s+requires|\s+ensures|\s*\{)', text, re.S)
+        # a type's methods: `impl Type {`, `impl<T> Type<T> {`, `impl Trait for Type {`
+        for head, block in re.findall(r'^impl\b([^{]*)\{(.*?)^\}', text, re.S | re.M):
+            name = re.findall(r'\w+', re.sub(r'<[^<>]*>', '', head.split(' for ')[-1]))[0]
+            signatures += [(name, signature) for signature in re.findall(r'fn \w+(\(.*?\)[^{]*?)(?=\s+requires|\s+ensures|\s*\{)', block, re.S)]
         for name, body in declared + signatures:
             types = set(re.findall(r'\b[A-Z]\w*', body)) - {name}
-            self.items[name] = {self.imports.get(t, (crate, t)) for t in types}
+            self.items.setdefault(name, set()).update(self.imports.get(t, (crate, t)) for t in types)
 
 
 class Tree:

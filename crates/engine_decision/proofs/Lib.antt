@@ -1,1 +1,2 @@
 pub mod OneEngine
+pub mod InRange

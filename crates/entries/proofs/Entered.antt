@@ -1,80 +1,87 @@
--- The decision on an entry can be carried out, and doing so gives the answer and the journal that the definitions give for the entry.
+-- What an entry promises, from the decision on it: refused, or with its event added.
 use mathlib.Core.Path.{◌≡◌, refl, sym, ap, ◌∙◌}
+use mathlib.Core.Logic.{◌≢◌}
+use mathlib.Core.Bool.{false, true≢false}
 use mathlib.Core.List.{List}
 use Prim.Native.Nat.{ℕ}
-use lib.Dec.{eqb}
-use borrow.Author.Tests.{eqb-true, eqb-false}
-use Rattle.conditions.proofs.Tests.{by-test}
-use Rattle.year.specs.declared.Setup.{Setup}
+use native.Mathlib.Omega.{arith}
+use Rattle.std.specs.Prelude.{Result, Ok, Err, IsErrAnd, Option, Some, None, IsSome}
 use Rattle.year.specs.declared.Event.{Event}
-use Rattle.year.specs.Replay.{replay}
-use Rattle.year.specs.Model.{Year}
+use Rattle.year.specs.declared.Status.{Status}
+use Rattle.year.specs.Replay.{Progress, replay, after}
+use Rattle.year.specs.Status.{status}
+use Rattle.year.specs.Model.{Model, NoSetup, Year, no_setup}
+use Rattle.progress.specs.declared.Progress.{Progress as State}
 use Rattle.progress.specs.State.{progress_of}
+use Rattle.journal.specs.Encode.{append}
 use Rattle.journal.specs.Read.{read_journal}
+use Rattle.reference.specs.declared.Refusal.{Refusal}
+use Rattle.reference.specs.Refused.{number_of, named}
 use Rattle.reference.specs.Call.{Entry, Enter, event_of}
-use Rattle.reference.specs.Answers.{refusal_on, journal_after, answer}
-use Rattle.reference.specs.declared.Answer.{Answer}
-use Rattle.reference.proofs.Given.{held-year, accepted-answer, refused-answer, accepted-size, accepted-year, entry-admissible, entry-room}
+use Rattle.reference.specs.Answers.{refusal_on, status_of}
+use Rattle.reference.proofs.Refused.{ok-means, err-means, named-refusal}
+use Rattle.reference.proofs.Given.{accepted-answer, accepted-size, accepted-year, entry-admissible, entry-room}
 use Rattle.reference.proofs.Demand1.{demand-1}
 use Rattle.reference.proofs.Demand2.{demand-2}
-use Rattle.slots.specs.declared.Scanned.{Scanned}
-use Rattle.slots.specs.Scanned.{replayed, ScannedAs}
-use Rattle.refusals.specs.declared.Decision.{Decision}
-use Rattle.refusals.specs.declared.Decision.TheVariants.{Add, Refuse}
-use Rattle.refusals.specs.Decisions.{decision_on}
-use Rattle.refusals.proofs.ScannedYear.{scanned-consistent}
-use Rattle.entries.specs.Entering.{CanAdd, Enterable, answer_to, journal_with}
-use Rattle.reference.proofs.Promises.{Promised, promised}
+use Rattle.reference.proofs.Promises.{Promised, promised, refused}
+use Rattle.refusals.specs.Decisions.{decision, decision_on}
+use Rattle.slots.specs.Scanned.{StandsFor, ScannedAs}
+use Rattle.entries.specs.Entering.{CanAdd}
 
-module _ (entry : Entry) (journal : List ℕ) (scanned : Scanned) (t : ScannedAs scanned (read_journal journal)) where
+module _ (entry : Entry) (journal : List ℕ) where
   abbrev number : ℕ
   number = refusal_on (Enter entry) journal
 
-  abbrev event : Event
-  event = event_of (replayed (read_journal journal)) entry
-
-  -- case split on the decision: the entry is accepted, and the journal holds a year; or it is refused
-  by-decision : (P : Decision → Type 0) → ((s : Setup) (es : List Event) → read_journal journal ≡ Year s es → number ≡ 0 → P (Add event))
-      → ((number ≡ 0 → ⊥) → P (Refuse number)) → P (decision_on entry journal)
-  by-decision P f g = by-test P (eqb number 0) (Add event) (Refuse number) (λ e. accepted (eqb-true number 0 e)) (λ e. g (eqb-false number 0 e))
+  -- an entry whose event is added finds a year
+  pub finds-year : (event : Event) → Ok event ≡ decision_on entry journal → no_setup (read_journal journal) ≡ false
+  unfolding decision_on
+  finds-year event d = by (read_journal journal) d
     where
-      accepted : number ≡ 0 → P (Add event)
-      accepted h = let year = held-year (read_journal journal) (accepted-year (Enter entry) journal h refl) in f year.0 year.1 year.2 h
+      by : (model : Model) → Ok event ≡ decision number entry model → no_setup model ≡ false
+      by NoSetup e = absurd (grind arith)
+      by (Year s es) e = refl
 
-  module _ (s : Setup) (es : List Event) (e : read_journal journal ≡ Year s es) where
-    year-is : progress_of scanned.progress ≡ replay s es
-    year-is = t.year ∙ ap replayed e
+  -- so a scan of the journal gives a state, which stands for that year
+  pub found-year : (scanned : Option State) → ScannedAs scanned (read_journal journal) → (event : Event) → Ok event ≡ decision_on entry journal → IsSome scanned
+  found-year None none event d = absurd (true≢false (sym none ∙ finds-year event d))
+  found-year (Some p) year event d = refl
 
-    event-is : event ≡ event_of (replay s es) entry
-    event-is = rw e
+  pub scanned-year : (scanned : Option State) → ScannedAs scanned (read_journal journal) → (p : State) → scanned ≡ Some p → StandsFor p (read_journal journal)
+  scanned-year scanned s p e = rw e at s
 
-    can-add : number ≡ 0 → CanAdd journal scanned.progress event
-    can-add h =
+  -- refused
+  pub declined : (r : Refusal) → Err r ≡ decision_on entry journal → {a : Result Status Refusal} → IsErrAnd a (λ e. e ≡ r) → Promised (Enter entry) journal a journal
+  unfolding decision_on
+  declined r d =
+      let m = by (read_journal journal) refl d in
+      refused (Enter entry) journal r (ap number_of m.1 ∙ named-refusal (Enter entry) journal m.0)
+    where
+      by : (model : Model) → read_journal journal ≡ model → Err r ≡ decision number entry model → (number ≢ 0) × (r ≡ named number)
+      by NoSetup h e = (λ z. true≢false (sym (ap no_setup h) ∙ accepted-year (Enter entry) journal z refl), grind arith)
+      by (Year s es) h e = err-means number (event_of (replay s es) entry) r e
+
+  -- added to the year that a state stands for
+  module _ (p : State) (year : StandsFor p (read_journal journal)) (event : Event) (d : Ok event ≡ decision_on entry journal) where
+    abbrev before : Progress
+    before = replay year.setup year.events
+
+    accepted : (number ≡ 0) × (event ≡ event_of before entry)
+    unfolding decision_on
+    accepted = ok-means number (event_of before entry) event (d ∙ ap (decision number entry) year.holds)
+
+    pub can-add : CanAdd journal p event
+    can-add =
         record {
-          size = accepted-size (Enter entry) journal h;
-          room = entry-room entry journal s es e h;
-          consistent = scanned-consistent scanned (read_journal journal) t (accepted-year (Enter entry) journal h refl);
-          admitted = rw (year-is, event-is) (entry-admissible entry journal s es e h);
+          size = accepted-size (Enter entry) journal accepted.0;
+          room = entry-room entry journal year.setup year.events year.holds accepted.0;
+          consistent = year.consistent;
+          admitted = rw (accepted.1, year.year) (entry-admissible entry journal year.setup year.events year.holds accepted.0);
         }
 
-    added-answer : number ≡ 0 → answer_to (Add event) (progress_of scanned.progress) ≡ answer (Enter entry) journal
-    added-answer h = ap (answer_to (Add event)) year-is ∙ rw (accepted-answer (Enter entry) journal h, demand-2.entered entry journal s es e h, event-is)
-
-    added-journal : number ≡ 0 → journal_with (Add event) journal ≡ journal_after (Enter entry) journal
-    added-journal h = rw (event-is) (sym (demand-1.entry_written entry journal s es e h))
-
-  pub enterable : (d : Decision) → d ≡ decision_on entry journal → Enterable journal scanned.progress d
-  enterable d e = rw e (by-decision (λ d. Enterable journal scanned.progress d) can-add (λ _. tt))
-
-  entered-answer : answer_to (decision_on entry journal) (progress_of scanned.progress) ≡ answer (Enter entry) journal
-  entered-answer =
-      by-decision (λ d. answer_to d (progress_of scanned.progress) ≡ answer (Enter entry) journal) added-answer (λ f. sym (refused-answer (Enter entry) journal f))
-
-  entered-journal : journal_with (decision_on entry journal) journal ≡ journal_after (Enter entry) journal
-  entered-journal =
-      by-decision (λ d. journal_with d journal ≡ journal_after (Enter entry) journal) added-journal (λ f. sym (demand-1.refused_journal (Enter entry) journal f))
-
-  -- what a call that makes an entry promises
-  pub entered : (d : Decision) → d ≡ decision_on entry journal → (r : Answer) (left : List ℕ) → r ≡ answer_to d (progress_of scanned.progress) → left ≡ journal_with d journal
-      → Promised (Enter entry) journal r left
-  entered d e r left a j = promised (Enter entry) journal r left (rw e at a ∙ entered-answer) (rw e at j ∙ entered-journal)
+    pub entered : (x : Status) (left : List ℕ) → x ≡ status 1024 (after event (progress_of p)) → left ≡ append journal event → Promised (Enter entry) journal (Ok x) left
+    entered x left a j =
+        let stored = demand-2.entered entry journal year.setup year.events year.holds accepted.0 in
+        let shown : x ≡ status 1024 (after (event_of before entry) before) = a ∙ ap (λ q. status 1024 (after event q)) year.year ∙ ap (λ v. status 1024 (after v before)) accepted.1 in
+        promised (Enter entry) journal (Ok x) left
+        (ap Ok shown ∙ sym (accepted-answer (Enter entry) journal accepted.0 ∙ ap (λ m. Ok (status_of m)) stored))
+        (j ∙ ap (append journal) accepted.1 ∙ sym (demand-1.entry_written entry journal year.setup year.events year.holds accepted.0))

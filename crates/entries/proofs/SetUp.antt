@@ -13,7 +13,7 @@ use Rattle.journal.specs.Encode.{setup_version, encode}
 use Rattle.journal.specs.Read.{read_journal}
 use Rattle.setup_encoder.specs.Fits.{SetupFits}
 use Rattle.setup_encoder.proofs.Fits.{setup-fits}
-use Rattle.reference.specs.declared.Answer.TheVariants.{Accepted}
+use Rattle.std.specs.Prelude.{Ok}
 use Rattle.reference.specs.Call.{SetUp}
 use Rattle.reference.specs.Answers.{refusal_on}
 use Rattle.reference.proofs.Validity.{setup-valid}
@@ -22,7 +22,10 @@ use Rattle.reference.proofs.Demand1.{demand-1}
 use Rattle.reference.proofs.Demand2.{demand-2}
 use Rattle.reference.proofs.Promises.{Promised, promised}
 
-module _ (s : Setup) (journal : List ℕ) (h : refusal_on (SetUp s) journal ≡ 0) where
+module _ (s : Setup) (journal : List ℕ) (none : 0 ≡ refusal_on (SetUp s) journal) where
+  h : refusal_on (SetUp s) journal ≡ 0
+  h = sym none
+
   pub setup-ready : setup_in_range s ≡ true
   setup-ready = setup-valid s (read_journal journal) (accepted-refusal (SetUp s) journal h)
 
@@ -30,7 +33,7 @@ module _ (s : Setup) (journal : List ℕ) (h : refusal_on (SetUp s) journal ≡ 
   setup-writable = (accepted-size (SetUp s) journal h, setup-fits s setup-ready)
 
   pub setup-done : (x : Status) (left : List ℕ) (p : Progress) → x ≡ status 1024 p → p ≡ start s → left ≡ encode setup_version s []
-      → Promised (SetUp s) journal (Accepted x) left
+      → Promised (SetUp s) journal (Ok x) left
   setup-done x left p a b e =
-      promised (SetUp s) journal (Accepted x) left
+      promised (SetUp s) journal (Ok x) left
       (rw (a, b, accepted-answer (SetUp s) journal h, demand-2.set_up s journal h)) (e ∙ sym (demand-1.setup_written s journal h))

@@ -21,10 +21,10 @@ use Rattle.year.proofs.Remaining.{storing-closed, deletions}
 use Rattle.journal.specs.Encode.{encode, version}
 use Rattle.journal.specs.Read.{read_journal}
 use Rattle.journal.proofs.OneJournal.{demand}
-use Rattle.reference.specs.declared.Answer.TheVariants.{Accepted}
+use Rattle.std.specs.Prelude.{Ok}
 use Rattle.reference.specs.Call.{Readings, EnterEngine, Form, Marks, Query, ReadStatus, Write, Call, Ask, event_of}
 use Rattle.reference.specs.Refusals.{refusals, refusal}
-use Rattle.reference.specs.Answers.{refusal_on, journal_after, status_of, answer, out_bytes, out_after, out_part}
+use Rattle.reference.specs.Answers.{refusal_on, journal_after, status_of, answer, out_bytes, out_after, out_part, output_answer}
 use Rattle.reference.specs.Deletion.{engine_call, deletion_call, SameFigures, DeletionPromises}
 use Rattle.reference.proofs.Given.{held-year, accepted-answer, accepted-year, accepted-reads, year-size, status-accepted}
 use Rattle.reference.proofs.Demand1.{demand-1}
@@ -32,11 +32,11 @@ use Rattle.reference.proofs.Demand2.{demand-2}
 
 -- ---- what status answers on an accepted journal
 
-status-on : (journal : List ℕ) (s : Setup) (es : List Event) → read_journal journal ≡ Year s es → answer (Ask ReadStatus) journal ≡ Accepted (status 1024 (replay s es))
+status-on : (journal : List ℕ) (s : Setup) (es : List Event) → read_journal journal ≡ Year s es → answer (Ask ReadStatus) journal ≡ Ok (status 1024 (replay s es))
 status-on journal s es h =
     accepted-answer (Ask ReadStatus) journal (status-accepted journal (year-size journal s es h) (ap no_setup h))
-    ∙ ap (λ b. Accepted (status_of (read_journal b))) (demand-1.query_kept ReadStatus journal)
-    ∙ ap (λ m. Accepted (status_of m)) h
+    ∙ ap (λ b. Ok (status_of (read_journal b))) (demand-1.query_kept ReadStatus journal)
+    ∙ ap (λ m. Ok (status_of m)) h
 
 -- ---- two years that differ in how many events are stored
 
@@ -60,10 +60,10 @@ module _ (s : Setup) (es fs : List Event) (n : ℕ) (same : replay s es ≡ stor
     bytes_same Marks = rw (ha, hb, same)
 
     pub same-figures : SameFigures a b
-    unfolding out_after out_part
+    unfolding out_after out_part output_answer
     same-figures =
         record {
-          status = status-on a s es ha ∙ ap Accepted (ap (status 1024) same ∙ storing-status n p 1024) ∙ sym (status-on b s fs hb);
+          status = status-on a s es ha ∙ ap Ok (ap (status 1024) same ∙ storing-status n p 1024) ∙ sym (status-on b s fs hb);
           out = λ form out. rw (writes form out, bytes_same form);
           part = λ form out. rw (writes form out, bytes_same form);
           output = λ form out. rw (writes form out, bytes_same form);

@@ -1,7 +1,7 @@
 -- Demand 1, proved.
 use mathlib.Core.Path.{◌≡◌, refl, sym, ap, ◌∙◌}
 use mathlib.Core.Logic.{◌↔◌, ◌≢◌, inl, inr, ⊎_elim}
-use mathlib.Core.Bool.{true, false}
+use mathlib.Core.Bool.{Bool, true, false}
 use mathlib.Core.List.{List, [], ◌∷◌}
 use Prim.Native.Nat.{ℕ, ◌+◌, ◌*◌, ◌≤◌, ◌<◌}
 use native.Mathlib.Nat.{eq-or-lt_of_le}
@@ -9,7 +9,7 @@ use native.Mathlib.Decide.{dec_lt}
 use native.Mathlib.Omega.{arith}
 use lib.Dec.{eqb}
 use lib.ListN.{length, get_or, length-map}
-use borrow.Author.Tests.{eqb-true, ltb-false}
+use borrow.Author.Tests.{eqb-true, eqb-false, ltb-false}
 use Rattle.buffers.specs.Bytes.{put, Outside}
 use Rattle.conditions.specs.Rows.{applies, FirstApplies, NoneApplies}
 use Rattle.buffers.proofs.Lists.{length-put, put_other}
@@ -32,9 +32,10 @@ use Rattle.journal.proofs.OneJournal.{demand}
 use Rattle.reference.specs.declared.Change.TheVariants.{Amend, BeginPeriod, Declare, Delete}
 use Rattle.reference.specs.Call.{Entry, EnterEngine, EnterChange, Form, Marks, Write, Call, SetUp, Enter, Ask, event_of, of_change, of_deletion}
 use Rattle.reference.specs.Refusals.{refusals, refusal}
-use Rattle.reference.specs.Answers.{refusals_on, refusal_on, with_entry, written, journal_after, no_status, status_of, answer, Outcome, outcome_of, outcome, out_bytes, out_after, out_part}
+use Rattle.reference.specs.Answers.{refusals_on, refusal_on, with_entry, written, journal_after, no_status, status_of, answer, Outcome, outcome_of, outcome, out_bytes, out_after, out_part, OutputOutcome, output_answer, output_outcome_of, output_outcome}
 use Rattle.reference.specs.Demand1.{Demand1}
 use Rattle.reference.proofs.Given.{accepted-gives, refused-gives, refused-answer, answer-outcome, held-year, accepted-size, accepted-year, accepted-refusal, entry-admissible, entry-room}
+use Rattle.reference.proofs.Refused.{named-refusal}
 use Rattle.reference.proofs.Validity.{refusals-numbered, setup-valid, not-refused}
 
 -- ---- refused calls
@@ -57,6 +58,15 @@ module _ (form : Form) (journal out : List ℕ) where
   refused-part : refusal_on writing journal ≢ 0 → out_part form journal out ≡ []
   unfolding out_part
   refused-part h = refused-gives writing journal bytes [] h
+
+  -- what the answer of a call that writes an output says
+  pub output-outcome : output_outcome_of (output_answer form journal out) ≡ output_outcome form journal out
+  unfolding output_answer out_part
+  output-outcome = by (eqb (refusal_on writing journal) 0) refl
+    where
+      by : (b : Bool) → eqb (refusal_on writing journal) 0 ≡ b → output_outcome_of (output_answer form journal out) ≡ output_outcome form journal out
+      by true e = rw (e, eqb-true (refusal_on writing journal) 0 e) refl
+      by false e = rw (e, named-refusal writing journal (eqb-false (refusal_on writing journal) 0 e)) refl
 
 module _ (call : Call) (journal : List ℕ) where
   refused-status : refusal_on call journal ≢ 0 → (outcome_of (answer call journal)).status ≡ no_status
@@ -210,7 +220,8 @@ demand-1 =
       accepted = accepted-if;
       order = λ call journal. refl;
       returned = returned;
-      out_returned = λ form journal out. refl;
+      out_returned = λ form journal out. ap (λ (x : OutputOutcome). x.refusal) (output-outcome form journal out);
+      out_counted = λ form journal out. ap (λ (x : OutputOutcome). x.length) (output-outcome form journal out);
       refused_status = refused-status;
       refused_part = refused-part;
     }

@@ -25,7 +25,7 @@ use Rattle.year.specs.Model.{no_setup}
 use Rattle.year.proofs.Replayed.{history-length}
 use Rattle.journal.specs.Read.{read_journal}
 use Rattle.journal.proofs.OneJournal.{demand}
-use Rattle.reference.specs.declared.Answer.TheVariants.{Accepted}
+use Rattle.std.specs.Prelude.{Ok}
 use Rattle.reference.specs.Call.{Form, Marks, ReadStatus, Write, Call, SetUp, Enter, Ask, is_setup}
 use Rattle.reference.specs.Answers.{refusal_on, journal_after, status_of, answer, out_bytes, out_after, out_part}
 use Rattle.reference.specs.Model.{accepted}
@@ -123,7 +123,7 @@ answered call journal h =
     let left = journal_after call journal in
     let n = (stored-calls.step journal (accepted-size call journal h) call).size in
     let same : status_of (read_journal (journal_after (Ask ReadStatus) left)) ≡ status_of (read_journal left) = ap (λ b. status_of (read_journal b)) (demand-1.query_kept ReadStatus left) in
-    accepted-answer call journal h ∙ ap Accepted (sym same) ∙ sym (accepted-answer (Ask ReadStatus) left (status-accepted left n (after-year call journal h)))
+    accepted-answer call journal h ∙ ap Ok (sym same) ∙ sym (accepted-answer (Ask ReadStatus) left (status-accepted left n (after-year call journal h)))
 
 -- ---- the part that is handed back
 

@@ -6,7 +6,7 @@ use mathlib.Core.List.{List}
 use Prim.Native.Nat.{ℕ, ◌*◌, ◌≤◌, ◌<◌}
 use lib.Dec.{eqb}
 use lib.ListN.{length, get_or}
-use borrow.Author.Tests.{eq-eqb, ne_eqb, eqb-true, le-ltb}
+use borrow.Author.Tests.{eq-eqb, ne_eqb, eqb-true, eqb-false, le-ltb}
 use Rattle.conditions.specs.Rows.{applies}
 use Rattle.conditions.proofs.Tests.{not-false}
 use Rattle.year.specs.declared.Setup.{Setup}
@@ -19,11 +19,13 @@ use Rattle.journal.specs.Encode.{version_in}
 use Rattle.journal.specs.Read.{read_journal}
 use Rattle.journal.proofs.OneJournal.{demand}
 use Rattle.journal.proofs.Reading.{read-few}
-use Rattle.reference.specs.declared.Answer.TheVariants.{Accepted, Refused}
+use Rattle.std.specs.Prelude.{Ok, Err}
 use Rattle.reference.specs.Call.{Entry, Marks, ReadStatus, Write, Call, Enter, Ask, event_of, is_setup}
 use Rattle.reference.specs.Refusals.{refusals, refusal}
+use Rattle.reference.specs.Refused.{named}
 use Rattle.reference.specs.Answers.{refusal_on, refusals_on, if_accepted, journal_after, status_of, answer, outcome_of, outcome}
 use Rattle.reference.specs.Model.{accepted, step_model}
+use Rattle.reference.proofs.Refused.{named-refusal}
 use Rattle.reference.proofs.Stored.{stored-calls}
 use Rattle.reference.proofs.Validity.{not-refused, admitted}
 
@@ -48,11 +50,11 @@ module _ (call : Call) (journal : List ℕ) where
   number = refusal_on call journal
 
   -- (`rw` before `refl`: if the two differ, that is found at once)
-  pub accepted-answer : number ≡ 0 → answer call journal ≡ Accepted status
+  pub accepted-answer : number ≡ 0 → answer call journal ≡ Ok status
   unfolding answer
   accepted-answer h = rw (eq-eqb number 0 h) refl
 
-  pub refused-answer : number ≢ 0 → answer call journal ≡ Refused number
+  pub refused-answer : number ≢ 0 → answer call journal ≡ Err (named number)
   unfolding answer
   refused-answer h = rw (ne_eqb number 0 h) refl
 
@@ -62,7 +64,7 @@ module _ (call : Call) (journal : List ℕ) where
     where
       by : (b : Bool) → eqb number 0 ≡ b → outcome_of (answer call journal) ≡ outcome call journal
       by true e = rw (e, eqb-true number 0 e) refl
-      by false e = rw e refl
+      by false e = rw (e, named-refusal call journal (eqb-false number 0 e)) refl
 
 -- if a call is accepted, the journal has 544 bytes and, unless the call is a setup, holds a year
 module _ (call : Call) (journal : List ℕ) (h : refusal_on call journal ≡ 0) where

@@ -2,24 +2,30 @@
 use mathlib.Core.Path.{◌≡◌, sym, ap, ◌∙◌}
 use mathlib.Core.List.{List}
 use Prim.Native.Nat.{ℕ}
-use Rattle.reference.specs.declared.Answer.{Answer}
-use Rattle.reference.specs.declared.Answer.TheVariants.{Refused}
+use Rattle.std.specs.Prelude.{Result, Err, IsErrAnd}
+use Rattle.year.specs.declared.Status.{Status}
+use Rattle.reference.specs.declared.Refusal.{Refusal}
+use Rattle.journal.specs.Read.{read_journal}
 use Rattle.reference.specs.Call.{Call}
-use Rattle.reference.specs.Answers.{refusal_on, journal_after, answer, outcome_of, outcome}
-use Rattle.reference.proofs.Given.{refused-answer, answer-outcome}
+use Rattle.reference.specs.Refused.{number_of}
+use Rattle.reference.specs.Answers.{refusal_on, journal_after, status_of, answer, outcome_of, outcome}
+use Rattle.reference.proofs.Refused.{err-gives, err-means, handed-on}
+use Rattle.reference.proofs.Given.{answer-outcome}
 use Rattle.reference.proofs.Demand1.{demand-1}
 
 -- the answer, its outcome, and the journal that is left
-abbrev pub Promised : Call → List ℕ → Answer → List ℕ → Type 0
-Promised call journal r left = (r ≡ answer call journal) × ((outcome_of r ≡ outcome call journal) × (left ≡ journal_after call journal))
+abbrev pub Promised : Call → List ℕ → Result Status Refusal → List ℕ → Type 0
+Promised call journal r left =
+    record { answer : r ≡ answer call journal; outcome : outcome_of r ≡ outcome call journal; journal_after : left ≡ journal_after call journal }
 
-pub promised : (call : Call) (journal : List ℕ) (r : Answer) (left : List ℕ) → r ≡ answer call journal → left ≡ journal_after call journal
+pub promised : (call : Call) (journal : List ℕ) (r : Result Status Refusal) (left : List ℕ) → r ≡ answer call journal → left ≡ journal_after call journal
     → Promised call journal r left
-promised call journal r left a j = (a, (ap outcome_of a ∙ answer-outcome call journal, j))
+promised call journal r left a j = record { answer = a; outcome = ap outcome_of a ∙ answer-outcome call journal; journal_after = j }
 
--- a refused call
-pub refused : (call : Call) (journal : List ℕ) (number : ℕ) → number ≡ refusal_on call journal → (number ≡ 0 → ⊥)
-    → Promised call journal (Refused number) journal
-refused call journal number e f =
-    let g : refusal_on call journal ≡ 0 → ⊥ = λ z. f (e ∙ z) in
-    promised call journal (Refused number) journal (ap Refused e ∙ sym (refused-answer call journal g)) (sym (demand-1.refused_journal call journal g))
+-- a refused call, from what a `?` hands on
+pub refused : (call : Call) (journal : List ℕ) (r : Refusal) → number_of r ≡ refusal_on call journal
+    → {a : Result Status Refusal} → IsErrAnd a (λ e. e ≡ r) → Promised call journal a journal
+unfolding answer
+refused call journal r e {a = a} h =
+    let told = err-gives (refusal_on call journal) (status_of (read_journal (journal_after call journal))) r e in
+    promised call journal a journal (handed-on h told) (sym (demand-1.refused_journal call journal (err-means _ _ r told).0))

@@ -1,5 +1,5 @@
 -- What each call gives back, and every byte that it leaves in the lent buffers (document 01, "The book" and "Refused calls, in checking order").
-use Rattle.std.specs.Prelude.{cond, List, [], map, ℕ, eqb, length}
+use Rattle.std.specs.Prelude.{cond, List, [], map, ℕ, eqb, length, Result, Ok, Err}
 use Rattle.buffers.specs.Bytes.{put}
 use Rattle.conditions.specs.Rows.{Row}
 use Rattle.cumsum.specs.Marks.{mark_byte}
@@ -9,11 +9,10 @@ use Rattle.year.specs.Status.{blank, status, year_marks}
 use Rattle.year.specs.Model.{Model, NoSetup, Year}
 use Rattle.journal.specs.Encode.{setup_version, encode, append}
 use Rattle.journal.specs.Read.{read_journal}
-use Rattle.reference.specs.declared.Answer.{Answer}
-use Rattle.reference.specs.declared.Answer.TheVariants.{Accepted, Refused}
-use Rattle.reference.specs.declared.OutputAnswer.{OutputAnswer}
+use Rattle.reference.specs.declared.Refusal.{Refusal}
 use Rattle.reference.specs.Call.{Entry, Form, Marks, Write, Call, SetUp, Enter, Ask, event_of}
 use Rattle.reference.specs.Refusals.{refusals, refusal}
+use Rattle.reference.specs.Refused.{number_of, named}
 
 -- the table for a call on a lent journal of any length and content, and its refusal, 0 for none
 abbrev pub refusals_on : Call → List ℕ → List Row
@@ -53,17 +52,17 @@ status_of (Year s es) = status 1024 (replay s es)
 
 -- "An accepted setup or entry returns the status of the book that it leaves", and the status call that of the book it reads. "A refusal returns its number".
 -- (A call that writes an output returns a part and its refusal instead of an answer.)
-unfoldable pub answer : Call → List ℕ → Answer
-answer call journal = if_accepted call journal (Accepted (status_of (read_journal (journal_after call journal)))) (Refused (refusal_on call journal))
+unfoldable pub answer : Call → List ℕ → Result Status Refusal
+answer call journal = if_accepted call journal (Ok (status_of (read_journal (journal_after call journal)))) (Err (named (refusal_on call journal)))
 
--- document 01's refusal number and figures for each case of an answer
+-- document 01's refusal number, 0 for none, and figures for each case of an answer
 pub record Outcome : Type 0 where
   pub refusal : ℕ
   pub status : Status
 
-abbrev pub outcome_of : Answer → Outcome
-outcome_of (Accepted s) = record { refusal = 0; status = s }
-outcome_of (Refused number) = record { refusal = number; status = no_status }
+abbrev pub outcome_of : Result Status Refusal → Outcome
+outcome_of (Ok s) = record { refusal = 0; status = s }
+outcome_of (Err refusal) = record { refusal = number_of refusal; status = no_status }
 
 -- the same for a call: "A refusal returns its number, every other figure of the answer zero, marks '-', N absent"
 unfoldable pub outcome : Call → List ℕ → Outcome
@@ -86,7 +85,23 @@ out_after form journal out = if_accepted (Ask (Write form (length out))) journal
 unfoldable pub out_part : Form → List ℕ → List ℕ → List ℕ
 out_part form journal out = if_accepted (Ask (Write form (length out))) journal (out_bytes form (read_journal journal)) []
 
--- what it returns besides the bytes: its refusal, and how many bytes it wrote, 0 if it is refused
-abbrev pub output_answer : Form → List ℕ → List ℕ → OutputAnswer
+-- what it returns besides the bytes: how many it wrote, or its refusal
+unfoldable pub output_answer : Form → List ℕ → List ℕ → Result ℕ Refusal
 output_answer form journal out =
+    if_accepted (Ask (Write form (length out))) journal
+    (Ok (length (out_bytes form (read_journal journal))))
+    (Err (named (refusal_on (Ask (Write form (length out))) journal)))
+
+-- document 01's refusal number, 0 for none, and how many bytes were written, 0 if it is refused, for each case of this
+pub record OutputOutcome : Type 0 where
+  pub refusal : ℕ
+  pub length : ℕ
+
+abbrev pub output_outcome_of : Result ℕ Refusal → OutputOutcome
+output_outcome_of (Ok count) = record { refusal = 0; length = count }
+output_outcome_of (Err refusal) = record { refusal = number_of refusal; length = 0 }
+
+-- the same for a call that writes an output
+abbrev pub output_outcome : Form → List ℕ → List ℕ → OutputOutcome
+output_outcome form journal out =
     record { refusal = refusal_on (Ask (Write form (length out))) journal; length = length (out_part form journal out) }

@@ -1,6 +1,6 @@
 -- Worked cases of the calls: each refusal (14 in CasesOfForty), some together with the next in order, and what accepted and refused calls leave.
 -- Lists of events and of calls have the newest first.
-use Rattle.std.specs.Prelude.{◌≡◌, true, false, List, [], ◌∷◌, ℕ, replicate}
+use Rattle.std.specs.Prelude.{◌≡◌, true, false, List, [], ◌∷◌, ℕ, replicate, Ok, Err}
 use Rattle.buffers.specs.Bytes.{zeros}
 use Rattle.ascii.specs.Text.{text}
 use Rattle.rounding.specs.declared.Factor.{Factor}
@@ -13,7 +13,7 @@ use Rattle.year.specs.declared.Event.TheVariants.{Engine, Amendment, NextPeriod,
 use Rattle.year.specs.Model.{Model, NoSetup, Year}
 use Rattle.year.specs.Cases.{pair, setup_of, engine, only_sum, three}
 use Rattle.journal.specs.Encode.{encode}
-use Rattle.reference.specs.declared.Answer.TheVariants.{Accepted, Refused}
+use Rattle.reference.specs.declared.Refusal.TheVariants.{NotAJournal}
 use Rattle.reference.specs.declared.Change.{Change}
 use Rattle.reference.specs.declared.Change.TheVariants.{Amend, BeginPeriod, Declare}
 use Rattle.reference.specs.Call.{engine_entry, EnterChange, Marks, ReadStatus, Write, Call, SetUp, Enter, Ask}
@@ -108,12 +108,12 @@ pub record Cases : Type 0 where
   -- on bytes: a refused call leaves them unchanged; a setup writes all of them, an entry adds its event
   pub refused_leaves : journal_after engine_one (zeros 544) ≡ zeros 544
   pub declared_leaves : journal_after engine_one (encode 1 (setup_of 5000 800) (Declaration ∷ [])) ≡ encode 1 (setup_of 5000 800) (Declaration ∷ [])
-  pub refused_answer : answer engine_one (zeros 544) ≡ Refused 7
+  pub refused_answer : answer engine_one (zeros 544) ≡ Err NotAJournal
   pub setup_writes : journal_after new_year (zeros 544) ≡ encode 1 (setup_of 5000 800) []
-  pub setup_answer : answer new_year (zeros 544) ≡ Accepted no_status
+  pub setup_answer : answer new_year (zeros 544) ≡ Ok no_status
   pub entry_writes : journal_after engine_one (encode 1 (setup_of 5000 800) []) ≡ encode 1 (setup_of 5000 800) (engine 1 998 ∷ [])
   -- an entry answers with the status of the journal that it leaves: one engine, short, S 998 and 5,000
-  pub entry_answer : answer engine_one (encode 1 (setup_of 5000 800) []) ≡ Accepted (record { n = 1; verdict = 0; hcnox = only_sum 998; co = only_sum 5000 })
+  pub entry_answer : answer engine_one (encode 1 (setup_of 5000 800) []) ≡ Ok (record { n = 1; verdict = 0; hcnox = only_sum 998; co = only_sum 5000 })
   -- at the calculator's resolution of 1,024: s 52,857 for X 998 then 1,071; and T 10, X 2,367 then 3,236 has '?', where 1,023 and 1,025 would have 'O'
   pub status_at_1024 : (status_of (year_of (engine 2 1071 ∷ engine 1 998 ∷ []))).hcnox.deviation ≡ exactly 52857 1
   pub marks_at_1024 : out_bytes Marks (Year (setup_of 5000 10) (engine 2 3236 ∷ engine 1 2367 ∷ [])) ≡ text "--?U"

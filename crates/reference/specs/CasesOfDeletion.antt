@@ -1,11 +1,11 @@
 -- Worked cases of the strike (document 02, W-201): refusal 17 and its place in the order, and what a strike writes and answers. Lists have the newest first.
-use Rattle.std.specs.Prelude.{◌≡◌, List, [], ◌∷◌, ◌++◌, ℕ, replicate, set}
+use Rattle.std.specs.Prelude.{◌≡◌, List, [], ◌∷◌, ◌++◌, ℕ, replicate, set, Ok, Err}
 use Rattle.year.specs.declared.Event.{Event}
 use Rattle.year.specs.declared.Event.TheVariants.{Amendment, NextPeriod, Declaration, Deletion}
 use Rattle.year.specs.Model.{NoSetup, Year}
 use Rattle.year.specs.Cases.{pair, setup_of, engine, engines_to, three}
 use Rattle.journal.specs.Encode.{encode}
-use Rattle.reference.specs.declared.Answer.TheVariants.{Accepted, Refused}
+use Rattle.reference.specs.declared.Refusal.TheVariants.{NothingToDelete}
 use Rattle.reference.specs.declared.Change.TheVariants.{Amend, BeginPeriod, Delete}
 use Rattle.reference.specs.Call.{Call}
 use Rattle.reference.specs.Refusals.{refusal}
@@ -55,9 +55,9 @@ pub record CasesOfDeletion : Type 0 where
   pub second_writes : journal_after strike (encode 2 (setup_of 5000 800) (engine 1 998 ∷ Deletion ∷ engine 1 998 ∷ []))
       ≡ set (set (encode 2 (setup_of 5000 800) (engine 1 998 ∷ Deletion ∷ engine 1 998 ∷ [])) 56 5) 24 4
   pub refused_leaves : journal_after strike (encode 1 (setup_of 5000 800) []) ≡ encode 1 (setup_of 5000 800) []
-  pub refused_answer : answer strike (encode 1 (setup_of 5000 800) []) ≡ Refused 17
+  pub refused_answer : answer strike (encode 1 (setup_of 5000 800) []) ≡ Err NothingToDelete
   -- it answers with the status without the engine
-  pub strike_answer : answer strike (encode 1 (setup_of 5000 800) (engine 1 998 ∷ [])) ≡ Accepted no_status
+  pub strike_answer : answer strike (encode 1 (setup_of 5000 800) (engine 1 998 ∷ [])) ≡ Ok no_status
   -- in a list of calls; a new setup starts over in version 1
   pub model_struck : model_of (strike ∷ changing (Amend (pair 700 6100)) ∷ engine_one ∷ new_year ∷ [])
       ≡ year_of (Deletion ∷ Amendment (pair 700 6100) ∷ engine 1 998 ∷ [])

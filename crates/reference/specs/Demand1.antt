@@ -12,7 +12,7 @@ use Rattle.journal.specs.Encode.{setup_version, encode, slot_place, version_in, 
 use Rattle.journal.specs.Read.{read_journal}
 use Rattle.reference.specs.Call.{Entry, EnterChange, Form, Marks, Query, Write, Call, SetUp, Enter, Ask, event_of, of_change, of_deletion}
 use Rattle.reference.specs.declared.Change.TheVariants.{Delete}
-use Rattle.reference.specs.Answers.{refusals_on, refusal_on, journal_after, no_status, status_of, answer, outcome_of, out_bytes, out_after, out_part, output_answer}
+use Rattle.reference.specs.Answers.{refusals_on, refusal_on, journal_after, no_status, status_of, answer, outcome_of, out_bytes, out_after, out_part, output_answer, output_outcome_of}
 
 pub record Demand1 : Type 0 where
   -- "The book and the strip .. are, after a refused call, byte for byte what they were"
@@ -44,7 +44,9 @@ pub record Demand1 : Type 0 where
   pub accepted : (call : Call) (journal : List ℕ) → (refusal_on call journal ≡ 0) ↔ NoneApplies (refusals_on call journal)
   pub order : (call : Call) (journal : List ℕ) → map (λ (row : Row). row.1) (refusals_on call journal) ≡ 3 ∷ 4 ∷ 5 ∷ 6 ∷ 7 ∷ 8 ∷ 9 ∷ 17 ∷ 10 ∷ 11 ∷ 12 ∷ 13 ∷ 14 ∷ 15 ∷ 16 ∷ []
   pub returned : (call : Call) (journal : List ℕ) → (outcome_of (answer call journal)).refusal ≡ refusal_on call journal
-  pub out_returned : (form : Form) (journal out : List ℕ) → (output_answer form journal out).refusal ≡ refusal_on (Ask (Write form (length out))) journal
+  pub out_returned : (form : Form) (journal out : List ℕ) → (output_outcome_of (output_answer form journal out)).refusal ≡ refusal_on (Ask (Write form (length out))) journal
+  -- the length that is returned is that of the part
+  pub out_counted : (form : Form) (journal out : List ℕ) → (output_outcome_of (output_answer form journal out)).length ≡ length (out_part form journal out)
   -- "every other figure of the answer zero, marks '-', N absent, and an empty part" (document 01, "Refused calls, in checking order")
   pub refused_status : (call : Call) (journal : List ℕ) → refusal_on call journal ≢ 0 → (outcome_of (answer call journal)).status ≡ no_status
   pub refused_part : (form : Form) (journal out : List ℕ) → refusal_on (Ask (Write form (length out))) journal ≢ 0 → out_part form journal out ≡ []

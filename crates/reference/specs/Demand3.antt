@@ -1,6 +1,6 @@
 -- Demand 3: finer work compared with what the calls give, after every list of calls on one journal that starts all zero, and on every accepted journal. Strikes
 -- stand in the lists, and the engines are those that remain (document 02, W-201).
-use Rattle.std.specs.Prelude.{◌≡◌, true, false, List, map, reverse, ℕ, ◌*◌, ◌≤◌, length}
+use Rattle.std.specs.Prelude.{◌≡◌, true, false, List, map, reverse, ℕ, ◌*◌, ◌≤◌, length, Err}
 use Rattle.buffers.specs.Bytes.{put}
 use Rattle.cumsum.specs.declared.Mark.{Mark}
 use Rattle.cumsum.specs.Marks.{mark_byte}
@@ -14,7 +14,7 @@ use Rattle.year.specs.Work.{marks_at, verdict_at, cumsum_at, limit_at}
 use Rattle.year.specs.FinerWork.{FinerWork}
 use Rattle.year.specs.Deletions.{remaining}
 use Rattle.journal.specs.Read.{read_journal}
-use Rattle.reference.specs.declared.Answer.TheVariants.{Refused}
+use Rattle.reference.specs.declared.Refusal.TheVariants.{NotAJournal}
 use Rattle.reference.specs.Call.{Marks, ReadStatus, Write, Call, Ask}
 use Rattle.reference.specs.Answers.{refusal_on, answer, outcome_of, out_after, out_part}
 use Rattle.reference.specs.Refusals.{refusal}
@@ -56,7 +56,7 @@ pub record OfRemaining (m : ℕ) (s : Setup) (es : List Event) : Type 0 where
 
 -- "Before an accepted setup, status and strip are refused by 7."
 pub record BeforeSetup (journal : List ℕ) : Type 0 where
-  pub status : answer (Ask ReadStatus) journal ≡ Refused 7
+  pub status : answer (Ask ReadStatus) journal ≡ Err NotAJournal
   pub marks : (size : ℕ) → refusal_on (Ask (Write Marks size)) journal ≡ 7
 
 -- after a list of calls, in the order in which they are made; `model_of` and `journal_of` take the newest first

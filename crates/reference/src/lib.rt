@@ -2,9 +2,10 @@
 #![tactic(auto)]
 
 ghost use Rattle.std.specs.Prelude.{◌≡◌};
+ghost use Rattle.reference.specs.Call.{change_event};
 ghost use Rattle.reference.specs.Refused.{number_of};
 
-use year::{Pair, Status};
+use year::{Event, Pair, Status};
 
 // Why a call is refused, in the order of document 01's numbers, 1 to 16; 17 is of document 02, W-201. (1 and 2 are of the key line.)
 #[derive(Clone, Copy, Debug, PartialEq, Eq)]
@@ -37,25 +38,31 @@ impl Refusal {
     }
 }
 
-// An accepted setup, entry or status gives the status; a refused call gives the number of its refusal.
-#[derive(Clone, Copy)]
-pub enum Answer {
-    Accepted(Status),
-    Refused(u8),
-}
+// An accepted setup, entry or status gives the status; a refused call gives its refusal.
+pub type Answer = Result<Status, Refusal>;
 
 // A change: an entry without readings. `Delete` ("strike" in document 02, W-201) removes the newest engine.
 #[derive(Clone, Copy)]
 pub enum Change {
-    Amend(Pair),
+    Amend(Pair<u32>),
     BeginPeriod,
     Declare,
     Delete,
 }
 
-// What a call that writes an output returns besides the bytes: its refusal, 0 for none, and how many bytes it wrote.
-#[derive(Clone, Copy)]
-pub struct OutputAnswer {
-    pub refusal: u8,
-    pub length: usize,
+// The event that a change adds.
+impl From<Change> for Event {
+    ghost from_gives = { λ change event. event ≡ change_event change };
+
+    fn from(change: Change) -> Event {
+        match change {
+            Change::Amend(standards) => Event::Amendment(standards),
+            Change::BeginPeriod => Event::NextPeriod,
+            Change::Declare => Event::Declaration,
+            Change::Delete => Event::Deletion,
+        }
+    }
 }
+
+// What a call that writes an output returns besides the bytes: how many it wrote, or its refusal.
+pub type OutputAnswer = Result<usize, Refusal>;

@@ -1,3 +1,2 @@
-pub mod ScannedYear
-pub mod Parts
 pub mod Decided
+mod Marks

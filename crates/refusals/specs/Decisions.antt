@@ -1,17 +1,19 @@
--- The decision on an entry, by the table of refusals: the event that it adds, or the number of its refusal.
-use Rattle.std.specs.Prelude.{cond, List, ℕ, eqb}
+-- The decision on an entry, by the table of refusals: the event that it adds, or its refusal.
+use Rattle.std.specs.Prelude.{List, ℕ, Result, Err}
 use Rattle.year.specs.declared.Event.{Event}
+use Rattle.year.specs.Replay.{replay}
+use Rattle.year.specs.Model.{Model, NoSetup, Year}
 use Rattle.journal.specs.Read.{read_journal}
+use Rattle.reference.specs.declared.Refusal.{Refusal}
+use Rattle.reference.specs.Refused.{named, unless_refused}
 use Rattle.reference.specs.Call.{Entry, Enter, event_of}
 use Rattle.reference.specs.Answers.{refusal_on}
-use Rattle.slots.specs.Scanned.{replayed}
-use Rattle.refusals.specs.declared.Decision.{Decision}
-use Rattle.refusals.specs.declared.Decision.TheVariants.{Add, Refuse}
 
--- the event is added if there is no refusal
-abbrev pub decision : ℕ → Event → Decision
-decision refusal e = cond (eqb refusal 0) (Add e) (Refuse refusal)
+-- the event is added if there is no refusal. (Where there is no year, an entry is refused.)
+abbrev pub decision : ℕ → Entry → Model → Result Event Refusal
+decision refusal entry NoSetup = Err (named refusal)
+decision refusal entry (Year s es) = unless_refused refusal (event_of (replay s es) entry)
 
 -- the decision on an entry on a journal of any length and content
-abbrev pub decision_on : Entry → List ℕ → Decision
-decision_on entry journal = decision (refusal_on (Enter entry) journal) (event_of (replayed (read_journal journal)) entry)
+unfoldable pub decision_on : Entry → List ℕ → Result Event Refusal
+decision_on entry journal = decision (refusal_on (Enter entry) journal) entry (read_journal journal)

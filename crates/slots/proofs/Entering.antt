@@ -44,7 +44,7 @@ both-fail false b f = refl
 
 -- no state, where there is no year
 pub no_year : {model : Model} → model ≡ NoSetup → ScannedAs None model
-no_year e = rw e (record { accepted = refl; year = tt; consistent = tt })
+no_year e = rw e
 
 module _ (journal : List ℕ) (n : ℕ) where
   pub none-entered : (setup_in_range (setup_in journal) && enters_up_to journal n) ≡ false → entered journal n ≡ NoSetup
@@ -64,7 +64,7 @@ module _ (journal : List ℕ) (n : ℕ) where
   finished j p l m u =
       let same : j ≡ n = omega arith in
       let v = subst (λ k. Entered journal k p) same u in
-      rw (all-entered (and-true v.setup v.enters)) (record { accepted = refl; year = v.stands; consistent = v.consistent })
+      rw (all-entered (and-true v.setup v.enters)) (record { setup = setup_in journal; events = events_in journal n; holds = refl; year = v.stands; consistent = v.consistent })
 
 -- the code found the setup in the header to be out of range: nothing is entered
 pub no-setup : (journal : List ℕ) (s : Setup) (r : Bool) → s ≡ setup_in journal → r ≡ setup_in_range s → (n : ℕ) → r ≡ false → entered journal n ≡ NoSetup

@@ -1,16 +1,14 @@
--- A row shared by all entries decides if one applies; if none does, the journal holds a year, and the engine's own rows decide.
-use mathlib.Core.Path.{sym, ◌∙◌}
+use Rattle.std.proofs.Common.{◌∙◌}
 use Rattle.reference.specs.Call.{engine_entry}
-use Rattle.refusals.proofs.Decided.{shared-refused}
-use Rattle.engine_decision.proofs.OneEngine.{engine-decided}
+use Rattle.reference.proofs.Refused.{handed-on}
+use Rattle.refusals.proofs.Decided.{shared_refused}
+use Rattle.engine_decision.proofs.OneEngine.{engine_decided}
 use Rattle.engine_decision.proofs.engine.Goals as goal
 
-pub returns-then-refusal-ne0 : goal.returns-then-refusal-ne0
-returns-then-refusal-ne0 c =
-    let r = c.entry_refusal-refusal in
-    shared-refused (engine_entry c.args.number c.args.hcnox.now c.args.co.now) c.args.journal.now r.result r.ensures c.if-refusal-ne0.true
+pub returns-in_err-p : goal.returns-in_err-p
+returns-in_err-p c =
+    let a = c.args in
+    handed-on c.from_residual.ensures.1 (shared_refused (engine_entry a.number a.hcnox.now a.co.now) a.journal.now c.in_err-p.field-0.0 c.in_err-p.ensures.refusal)
 
 pub returns : goal.returns
-returns c =
-    let none = sym c.entry_refusal-refusal.ensures ∙ c.if-refusal-ne0.false in
-    c.engine_decision.ensures ∙ engine-decided c.args.journal.now c.args.scanned.now c.requires c.args.number _ none
+returns c = c.engine_decision.ensures ∙ engine_decided c.args.number _ c.args.journal.now _ c.in_ok-p.ensures.year c.in_ok-p.ensures.refusal

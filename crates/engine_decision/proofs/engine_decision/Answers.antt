@@ -1,33 +1,26 @@
 -- The rows before and after the results are computed are, in this order, the engine's own rows.
-use mathlib.Core.Path.{sym, ◌∙◌}
-use Rattle.std.proofs.Common.{arith}
+use Rattle.std.proofs.Common.{sym, ◌∙◌}
 use Rattle.progress.specs.State.{progress_of}
 use Rattle.progress.proofs.Carried.{counted}
-use Rattle.reference.specs.Call.{Readings}
-use Rattle.engine_decision.proofs.OneEngine.{asked-counts, results-refused, results-added}
+use Rattle.reference.proofs.Refused.{handed-on}
+use Rattle.engine_decision.specs.Given.{given}
+use Rattle.engine_decision.proofs.OneEngine.{asked_refused, results_refused, results_added}
 use Rattle.engine_decision.proofs.engine_decision.Goals as goal
 
--- none of the rows before the results applies: the counts of the readings fit
-pub result_of-hcnox_result-requires : goal.result_of-hcnox_result-requires
-result_of-hcnox_result-requires c =
-    let readings : Readings = record { hcnox = c.args.hcnox.now; co = c.args.co.now } in
-    let counts = asked-counts c.args.number readings (progress_of c.args.p.now) (sym c.asked_refusal-asked.ensures ∙ c.if-asked-ne0.false) in
-    (counts.1, counts.2)
+pub returns-in_err-check_asked : goal.returns-in_err-check_asked
+returns-in_err-check_asked c =
+    let h = c.in_err-check_asked in
+    handed-on c.from_residual.ensures.1 (asked_refused c.args.number (given c.args.readings.now) (progress_of c.args.p.now) h.field-0.0 h.ensures)
 
-pub result_of-co_result-requires : goal.result_of-co_result-requires
-result_of-co_result-requires c =
-    let readings : Readings = record { hcnox = c.args.hcnox.now; co = c.args.co.now } in
-    let counts = asked-counts c.args.number readings (progress_of c.args.p.now) (sym c.asked_refusal-asked.ensures ∙ c.if-asked-ne0.false) in
-    (omega (arith, counts.0, counts.1), omega (arith, counts.0, counts.2))
-
-pub returns-then-worked-ne0 : goal.returns-then-worked-ne0
-returns-then-worked-ne0 c =
-    let none = sym c.asked_refusal-asked.ensures ∙ c.if-asked-ne0.false in
-    results-refused c.args.number _ (progress_of c.args.p.now) none _ _ _ c.result_of-hcnox_result.ensures c.result_of-co_result.ensures
-    (sym (counted c.args.p.now c.requires)) c.worked_refusal-worked.result c.worked_refusal-worked.ensures c.if-worked-ne0.true
+pub returns-in_err-check_worked : goal.returns-in_err-check_worked
+returns-in_err-check_worked c =
+    let h = c.in_err-check_worked in
+    let f = c.from_residual-in_err-check_worked in
+    handed-on f.ensures.1
+    (results_refused c.args.number (given c.args.readings.now) (progress_of c.args.p.now) c.in_ok-check_asked.ensures _ _ _ c.result_of-hcnox.ensures
+    c.result_of-co.ensures (c.len.ensures.value ∙ sym (counted c.args.p.now c.requires)) h.field-0.0 h.ensures)
 
 pub returns : goal.returns
 returns c =
-    let none = sym c.asked_refusal-asked.ensures ∙ c.if-asked-ne0.false in
-    results-added c.args.number _ (progress_of c.args.p.now) none _ _ _ c.result_of-hcnox_result.ensures c.result_of-co_result.ensures
-    (sym (counted c.args.p.now c.requires)) (sym c.worked_refusal-worked.ensures ∙ c.if-worked-ne0.false)
+    results_added c.args.number (given c.args.readings.now) (progress_of c.args.p.now) c.in_ok-check_asked.ensures _ _ _ c.result_of-hcnox.ensures
+    c.result_of-co.ensures (c.len.ensures.value ∙ sym (counted c.args.p.now c.requires)) c.in_ok-check_worked.ensures
