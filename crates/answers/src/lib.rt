@@ -13,6 +13,27 @@ use reference::Answer;
 use statistics::{Deviation, SampleSize};
 use year::{Figures, Status};
 
+// The blank figures of one pollutant.
+const NO_FIGURES: Figures = Figures {
+    sum: 0,
+    deviation: Deviation {
+        floor: 0,
+        inexact: 0,
+    },
+    cumsum: Interval { low: 0, high: 0 },
+    limit: Interval { low: 0, high: 0 },
+    size: SampleSize::Absent,
+    mark: Mark::Unmarked,
+};
+
+// The status that goes with a refusal.
+const NO_STATUS: Status = Status {
+    n: 0,
+    verdict: 0,
+    hcnox: NO_FIGURES,
+    co: NO_FIGURES,
+};
+
 // A sample size in tenths, 0 for none.
 fn size_number(size: SampleSize) -> u64
     ensures { result ≡ size_number size }
@@ -23,62 +44,43 @@ fn size_number(size: SampleSize) -> u64
     }
 }
 
-// Puts the nine numbers of one pollutant.
-fn put_pollutant(part: &mut [u64], f: Figures)
-    requires { length part.old ≡ 9 }
-    ensures { part.new ≡ pollutant_numbers f }
+// The nine numbers of one pollutant.
+#[tactic(auto, unfolding(exports::specs::Numbers::pollutant_numbers))]
+fn pollutant_numbers(f: Figures) -> [u64; 9]
+    ensures { result ≡ pollutant_numbers f }
 {
-    let size = f.size;
-    let mark = f.mark;
-    part[0] = f.sum;
-    part[1] = f.deviation.floor;
-    part[2] = f.deviation.inexact;
-    part[3] = f.cumsum.low;
-    part[4] = f.cumsum.high;
-    part[5] = f.limit.low;
-    part[6] = f.limit.high;
-    part[7] = size_number(size);
-    part[8] = mark_byte(mark) as u64;
+    [
+        f.sum,
+        f.deviation.floor,
+        f.deviation.inexact,
+        f.cumsum.low,
+        f.cumsum.high,
+        f.limit.low,
+        f.limit.high,
+        size_number(f.size),
+        mark_byte(f.mark) as u64,
+    ]
 }
 
-// Puts the twenty numbers of a status at the front of a lent slice. The rest of the slice is unchanged.
+// The twenty numbers of a status.
+#[tactic(auto, unfolding(exports::specs::Numbers::pollutant_numbers, exports::specs::Numbers::status_numbers))]
+fn status_numbers(s: Status) -> [u64; 20]
+    ensures { result ≡ status_numbers s }
+{
+    let mut numbers = [0; 20];
+    numbers[..2].copy_from_slice(&[s.n as u64, s.verdict as u64]);
+    numbers[2..11].copy_from_slice(&pollutant_numbers(s.hcnox));
+    numbers[11..].copy_from_slice(&pollutant_numbers(s.co));
+    numbers
+}
+
+// Puts the numbers of a status at the front of a lent slice. The rest of the slice is unchanged.
+#[tactic(auto, unfolding(buffers::specs::Bytes::put, exports::specs::Numbers::pollutant_numbers, exports::specs::Numbers::status_numbers))]
 fn put_status(numbers: &mut [u64], s: Status)
     requires { 20 ≤ length numbers.old }
     ensures { numbers.new ≡ put numbers.old 0 (status_numbers s) }
 {
-    put_pollutant(&mut numbers[2..11], s.hcnox);
-    put_pollutant(&mut numbers[11..20], s.co);
-    numbers[0] = s.n as u64;
-    numbers[1] = s.verdict as u64;
-}
-
-// The blank figures of one pollutant.
-fn no_figures() -> Figures
-    ensures { result ≡ blank 0 }
-{
-    Figures {
-        sum: 0,
-        deviation: Deviation {
-            floor: 0,
-            inexact: 0,
-        },
-        cumsum: Interval { low: 0, high: 0 },
-        limit: Interval { low: 0, high: 0 },
-        size: SampleSize::Absent,
-        mark: Mark::Unmarked,
-    }
-}
-
-// The status that goes with a refusal.
-fn no_status() -> Status
-    ensures { result ≡ no_status }
-{
-    Status {
-        n: 0,
-        verdict: 0,
-        hcnox: no_figures(),
-        co: no_figures(),
-    }
+    numbers[..20].copy_from_slice(&status_numbers(s));
 }
 
 // Puts the numbers of an answer at the front of a lent slice, and returns its refusal, 0 for none.
@@ -88,13 +90,13 @@ pub fn put_answer(numbers: &mut [u64], answer: Answer) -> u8
     ensures numbers_after { numbers.new ≡ put numbers.old 0 (status_numbers (outcome_of answer).status) }
 {
     match answer {
-        Answer::Accepted(s) => {
+        Ok(s) => {
             put_status(numbers, s);
             0
         }
-        Answer::Refused(number) => {
-            put_status(numbers, no_status());
-            number
+        Err(refusal) => {
+            put_status(numbers, NO_STATUS);
+            refusal.number()
         }
     }
 }

@@ -91,9 +91,12 @@ fn written(journal: &[u8], out: &mut [u8], size: usize)
     requires out_size { length out.old ≡ 100 }
     requires within { size ≤ 100 }
 {
-    let w = write_marks(journal, &mut out[..size]);
-    number(w.refusal as u64);
-    next(w.length as u64);
+    let (refusal, count) = match write_marks(journal, &mut out[..size]) {
+        Ok(count) => (0, count),
+        Err(refusal) => (refusal.number(), 0),
+    };
+    number(refusal as u64);
+    next(count as u64);
     quoted(out);
 }
 

@@ -17,12 +17,12 @@ pub fn title(line: &[u8]) {
 // The refusal, 0 for none, and the status; a refusal has zeros, '-' marks and no N.
 pub fn answer(a: Answer) {
     match a {
-        Answer::Accepted(s) => {
+        Ok(s) => {
             number(0);
             status(s);
         }
-        Answer::Refused(r) => {
-            number(r as u64);
+        Err(refusal) => {
+            number(refusal.number() as u64);
             text(b" 0 0 0 0 0 0 0 0 0 - - 0 0 0 0 0 0 0 - -");
         }
     }

@@ -42,11 +42,10 @@ fn list_marks(journal: &[u8], out: &mut [u8]) -> usize
     requires { 96 ≤ length out.old }
     ensures { Replied out.old (query_reply (Write Marks 80) journal.now) out.new result }
 {
-    let written = write_marks(journal, &mut out[3..83]);
-    if written.refusal != 0 {
-        return write_refusal(written.refusal, out);
+    match write_marks(journal, &mut out[3..83]) {
+        Ok(count) => write_marks_front(count, out),
+        Err(refusal) => write_refusal(refusal.number(), out),
     }
-    write_marks_front(written.length, out)
 }
 
 // Makes a call.

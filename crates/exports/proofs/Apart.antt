@@ -11,11 +11,13 @@ use Rattle.conditions.specs.Rows.{Row, first}
 use Rattle.conditions.proofs.Tests.{by-test}
 use Rattle.year.specs.Model.{Model}
 use Rattle.journal.specs.Read.{read_journal}
-use Rattle.reference.specs.declared.Answer.{Answer}
-use Rattle.reference.specs.declared.Answer.TheVariants.{Accepted, Refused}
+use Rattle.std.specs.Prelude.{Result, Ok, Err}
+use Rattle.year.specs.declared.Status.{Status}
+use Rattle.reference.specs.declared.Refusal.{Refusal}
 use Rattle.reference.specs.Call.{Form, Marks, Query, ReadStatus, Write, Call, SetUp, Enter, Ask}
 use Rattle.reference.specs.Refusals.{refusals, refusal}
 use Rattle.reference.specs.Answers.{refusal_on, answer, out_bytes, outcome}
+use Rattle.reference.proofs.Refused.{refusal-up-to}
 use Rattle.protocol.specs.KeyLine.{Command, Make, Refuse, command_of}
 use Rattle.protocol.specs.Reply.{marks_reply, out_reply, answer_reply, query_reply, call_reply, command_reply, reply_to}
 use Rattle.exports.specs.Exports.{if_short, reply_count, refusal_given, ShortApart}
@@ -26,9 +28,9 @@ marks-long : (bytes : List ℕ) → 2 ≤ length (marks_reply bytes)
 marks-long [] = omega arith
 marks-long (b ∷ bs) = omega arith
 
-answer-long : (a : Answer) → 2 ≤ length (answer_reply a)
-answer-long (Accepted s) = omega arith
-answer-long (Refused number) = omega arith
+answer-long : (a : Result Status Refusal) → 2 ≤ length (answer_reply a)
+answer-long (Ok s) = omega arith
+answer-long (Err refusal) = omega arith
 
 out-long : (form : Form) (bytes : List ℕ) → 2 ≤ length (out_reply form bytes)
 out-long Marks bytes = marks-long bytes
@@ -52,29 +54,6 @@ reply-long : (line journal : List ℕ) → 2 ≤ length (reply_to line journal)
 unfolding reply_to
 reply-long line journal = command-long (command_of line) journal
 
--- ---- a refusal
-
--- the largest number of the table
-abbrev largest : ℕ
-largest = 17
-
--- if every number of a table is at most `most`, so is the number that is taken
-abbrev UpTo : ℕ → List Row → Type 0
-UpTo most [] = Unit {0}
-UpTo most (row ∷ rows) = (row.1 ≤ most) × UpTo most rows
-
-first-up-to : (most : ℕ) (rows : List Row) → UpTo most rows → first rows 0 ≤ most
-first-up-to most [] u = omega arith
-first-up-to most (row ∷ rows) u = by-test (λ (n : ℕ). n ≤ most) row.0 row.1 (first rows 0) (λ _. u.0) (λ _. first-up-to most rows u.1)
-
-refusals-up-to : (size : ℕ) (call : Call) (model : Model) → UpTo largest (refusals size call model)
-unfolding refusals
-refusals-up-to size call model = omega arith
-
-refusal-up-to : (call : Call) (journal : List ℕ) → (outcome call journal).refusal ≤ largest
-unfolding outcome refusal
-refusal-up-to call journal = first-up-to largest (refusals (length journal) call (read_journal journal)) (refusals-up-to (length journal) call (read_journal journal))
-
 -- ---- both
 
 -- an answer that no slice with room gets shows that the slice is too short
@@ -89,9 +68,13 @@ reply-apart : (line journal out : List ℕ) → reply_count line journal out ≡
 unfolding reply_count
 reply-apart line journal out = apart 96 out 0 (length (reply_to line journal)) (λ e. omega (arith, reply-long line journal))
 
+refusal-below : (call : Call) (journal : List ℕ) → (outcome call journal).refusal ≤ 17
+unfolding outcome
+refusal-below call journal = refusal-up-to (length journal) call (read_journal journal)
+
 figures-apart : (call : Call) (journal figures : List ℕ) → refusal_given call journal figures ≡ 255 → length figures < 20
 unfolding refusal_given
-figures-apart call journal figures = apart 20 figures 255 (outcome call journal).refusal (λ e. omega (arith, refusal-up-to call journal))
+figures-apart call journal figures = apart 20 figures 255 (outcome call journal).refusal (λ e. omega (arith, refusal-below call journal))
 
 pub short-apart : ShortApart
 short-apart = record { reply = reply-apart; figures = figures-apart }

@@ -4,16 +4,19 @@ use mathlib.Core.Bool.{Bool, true, false, cond}
 use mathlib.Core.List.{List, [], ◌∷◌}
 use Prim.Native.Nat.{ℕ}
 use lib.Dec.{eqb}
+use borrow.Author.Tests.{eqb-false}
 use Rattle.conditions.proofs.Tests.{cond_same}
 use Rattle.year.specs.Model.{Model}
 use Rattle.journal.specs.Encode.{encode, version_in}
 use Rattle.journal.proofs.OneJournal.{demand}
-use Rattle.reference.specs.declared.Answer.TheVariants.{Accepted, Refused}
+use Rattle.std.specs.Prelude.{Ok, Err}
+use Rattle.reference.specs.Refused.{named}
 use Rattle.reference.specs.Call.{Query, ReadStatus, Write, Call, SetUp, Enter, Ask}
 use Rattle.reference.specs.Refusals.{refusal}
 use Rattle.reference.specs.Answers.{status_of, answer}
 use Rattle.reference.specs.Model.{step_model, model_of, journal_of}
 use Rattle.reference.specs.Stored.{Holds}
+use Rattle.reference.proofs.Refused.{named-number}
 use Rattle.reference.proofs.Stored.{stored-calls}
 use Rattle.reference.proofs.Untouched.{untouched}
 use Rattle.protocol.specs.KeyLine.{Command, Make, Refuse, command_of}
@@ -33,14 +36,14 @@ module _ (calls : List Call) where
   holds = stored-calls.every calls
 
   status-reply : (call : Call) → answer_reply (answer call journal)
-      ≡ cond (eqb (refusal 544 call model) 0) (answer_reply (Accepted (status_of (step_model call model)))) (refusal_reply (refusal 544 call model))
+      ≡ cond (eqb (refusal 544 call model) 0) (answer_reply (Ok (status_of (step_model call model)))) (refusal_reply (refusal 544 call model))
   unfolding answer
-  status-reply call = rw (holds.size, holds.reads, (stored-calls.every (call ∷ calls)).reads) (by (eqb (refusal 544 call model) 0))
+  status-reply call = rw (holds.size, holds.reads, (stored-calls.every (call ∷ calls)).reads) (by (eqb (refusal 544 call model) 0) refl)
     where
-      by : (b : Bool) → answer_reply (cond b (Accepted (status_of (step_model call model))) (Refused (refusal 544 call model)))
-          ≡ cond b (answer_reply (Accepted (status_of (step_model call model)))) (refusal_reply (refusal 544 call model))
-      by true = refl
-      by false = refl
+      by : (b : Bool) → eqb (refusal 544 call model) 0 ≡ b → answer_reply (cond b (Ok (status_of (step_model call model))) (Err (named (refusal 544 call model))))
+          ≡ cond b (answer_reply (Ok (status_of (step_model call model)))) (refusal_reply (refusal 544 call model))
+      by true e = refl
+      by false e = ap refusal_reply (named-number 544 call model (eqb-false (refusal 544 call model) 0 e))
 
   -- a query leaves the state unchanged, accepted or not
   query-leaves : (query : Query) → step_model (Ask query) model ≡ model

@@ -1,5 +1,6 @@
 -- A line on a stored journal: the reply and the journal after it, from what its call does to the year.
-use mathlib.Core.Path.{◌≡◌, refl}
+use mathlib.Core.Path.{◌≡◌, refl, ap, ◌∙◌}
+use mathlib.Core.Logic.{◌≢◌}
 use mathlib.Core.Bool.{false}
 use mathlib.Core.List.{List, [], ◌∷◌}
 use Prim.Native.Nat.{ℕ, ◌<◌}
@@ -17,8 +18,11 @@ use Rattle.journal.specs.Read.{read_journal}
 use Rattle.reference.specs.Call.{Entry, Marks, Write, Call, Enter, Ask, event_of}
 use Rattle.reference.specs.Refusals.{refusal}
 use Rattle.reference.specs.Answers.{refusal_on, journal_after, answer, out_bytes}
+use Rattle.reference.proofs.Refused.{named-refusal}
+use Rattle.reference.proofs.Given.{refused-answer}
+use Rattle.reference.proofs.Demand1.{demand-1}
 use Rattle.protocol.specs.KeyLine.{Make, command_of}
-use Rattle.protocol.specs.Reply.{refusal_reply, status_reply, marks_reply, reply_to, journal_after_line}
+use Rattle.protocol.specs.Reply.{refusal_reply, answer_reply, status_reply, marks_reply, reply_to, journal_after_line}
 use Rattle.protocol.specs.Run.{replies}
 
 -- what a line does to a journal
@@ -53,11 +57,12 @@ module _ (journal line : List ℕ) (s : Setup) (es : List Event) (stored : Store
   -- a refused entry
   module _ (entry : Entry) (r : ℕ) (made : command_of line ≡ Make (Enter entry)) (refused : refusal 544 (Enter entry) (Year s es) ≡ r) (some : 0 < r) where
     pub refused-does : Does line journal (refusal_reply r) journal
-    unfolding reply_to journal_after_line answer journal_after
+    unfolding reply_to journal_after_line
     refused-does =
         let no = on-year (Enter entry) r refused in
-        let f : eqb r 0 ≡ false = ne_eqb r 0 (omega arith) in
-        record { replied = rw (made, no, f); left = rw (made, no, f) }
+        let f : refusal_on (Enter entry) journal ≢ 0 = omega (arith, no, some) in
+        let told = ap answer_reply (refused-answer (Enter entry) journal f) ∙ ap refusal_reply (named-refusal (Enter entry) journal f ∙ no) in
+        record { replied = rw made told; left = rw made (demand-1.refused_journal (Enter entry) journal f) }
 
   -- the marks
   pub marks-does : (size : ℕ) → command_of line ≡ Make (Ask (Write Marks size)) → refusal 544 (Ask (Write Marks size)) (Year s es) ≡ 0

@@ -1,12 +1,12 @@
 -- Document 01, "Key line": the reply to a line, and the journal after it.
-use Rattle.std.specs.Prelude.{List, [], ◌∷◌, ◌++◌, ℕ, Option, Some, None}
+use Rattle.std.specs.Prelude.{List, [], ◌∷◌, ◌++◌, ℕ, Option, Some, None, Result, Ok, Err}
 use Rattle.ascii.specs.Text.{byte, text}
 use Rattle.ascii.specs.Decimal.{decimal}
 use Rattle.cumsum.specs.Marks.{mark_byte}
 use Rattle.year.specs.declared.Status.{Status}
 use Rattle.journal.specs.Read.{read_journal}
-use Rattle.reference.specs.declared.Answer.{Answer}
-use Rattle.reference.specs.declared.Answer.TheVariants.{Accepted, Refused}
+use Rattle.reference.specs.declared.Refusal.{Refusal}
+use Rattle.reference.specs.Refused.{number_of}
 use Rattle.reference.specs.Call.{Form, Marks, Query, ReadStatus, Write, Call, SetUp, Enter, Ask}
 use Rattle.reference.specs.Answers.{refusal_on, if_accepted, answer, journal_after, out_bytes}
 use Rattle.protocol.specs.KeyLine.{Command, Make, Refuse, command_of}
@@ -38,9 +38,9 @@ status_reply s =
     text "OK" ++ spaced (decimal s.n) ++ spaced (decimal s.verdict) ++ spaced (mark_byte s.hcnox.mark ∷ mark_byte s.co.mark ∷ [])
     ++ spaced (size_text s.hcnox.size) ++ spaced (size_text s.co.size)
 
-abbrev pub answer_reply : Answer → List ℕ
-answer_reply (Accepted s) = status_reply s
-answer_reply (Refused number) = refusal_reply number
+abbrev pub answer_reply : Result Status Refusal → List ℕ
+answer_reply (Ok s) = status_reply s
+answer_reply (Err refusal) = refusal_reply (number_of refusal)
 
 -- the reply to a call on a journal: the marks for a marks call, the status for any other
 abbrev pub query_reply : Query → List ℕ → List ℕ

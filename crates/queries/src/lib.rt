@@ -1,19 +1,19 @@
 // The public calls that only read the journal: status, and the marks written into a lent output. None has a precondition, on its arguments or on lent buffers.
-// Each contract gives the whole answer (its value, which fixes the enum case, and its refusal number and figures as in the specification, `outcome`) and every
-// byte of each buffer that the call may write, refused or not. The result of `marks` keeps its output lent, so its contract gives the bytes of that result, and
-// by `LenderFinds` every byte behind it.
+// Each contract gives the whole answer (its value, and its refusal number and figures as in the specification, `outcome` and `output_outcome`) and every byte of
+// each buffer that the call may write, refused or not. The result of `marks` keeps its output lent, so its contract gives the bytes of that result, and by
+// `LenderFinds` every byte behind it.
 #![tactic(auto)]
 
 ghost use Rattle.std.specs.Prelude.{◌≡◌, length, drop};
 ghost use Rattle.std.specs.Borrow.{sem};
 ghost use Rattle.front_part.specs.Lender.{LenderFinds};
 ghost use Rattle.reference.specs.Call.{Marks, ReadStatus, Write, Ask};
-ghost use Rattle.reference.specs.Answers.{refusal_on, answer, outcome_of, outcome, out_after, out_part, output_answer};
+ghost use Rattle.reference.specs.Answers.{refusal_on, answer, outcome_of, outcome, out_after, out_part, output_answer, output_outcome_of, output_outcome};
 
 use cumsum::RESOLUTION;
 use printing::print_marks;
 use reference::{Answer, OutputAnswer};
-use refusals::{marks_refusal, status_refusal};
+use refusals::{check_marks, check_status};
 use scan::scan_journal;
 use verdicts::status::status_of;
 
@@ -23,40 +23,37 @@ pub fn read_status(journal: &[u8]) -> Answer
     ensures outcome { outcome_of result ≡ outcome (Ask ReadStatus) journal.now }
 {
     let scanned = scan_journal(journal);
-    let number = status_refusal(journal, &scanned);
-    if number != 0 {
-        return Answer::Refused(number);
-    }
-    Answer::Accepted(status_of(&scanned.progress))
+    let p = check_status(journal, &scanned)?;
+    Ok(status_of(p))
 }
 
-// Marks, at the front of the output.
+// Marks, at the front of the output: how many bytes they take.
 pub fn write_marks(journal: &[u8], out: &mut [u8]) -> OutputAnswer
     ensures answer { result ≡ output_answer Marks journal.now out.old }
+    ensures outcome { output_outcome_of result ≡ output_outcome Marks journal.now out.old }
     ensures out_after { out.new ≡ out_after Marks journal.now out.old }
 {
     let scanned = scan_journal(journal);
-    let refusal = marks_refusal(journal, &scanned, out.len());
-    if refusal != 0 {
-        return OutputAnswer { refusal, length: 0 };
-    }
-    let engines = scanned.progress.engines;
-    let count = engines.count;
-    print_marks(engines, RESOLUTION, out);
-    OutputAnswer {
-        refusal: 0,
-        length: 2 * count,
-    }
+    let p = check_marks(journal, &scanned, out.len())?;
+    print_marks(&p.engines, RESOLUTION, out);
+    Ok(2 * p.engines.len())
 }
 
 // The same, with the refusal returned through a lent byte; the result is where the written part ends.
 fn write_front(journal: &[u8], out: &mut [u8], refusal: &mut u8) -> usize
-    ensures answer { record { refusal = refusal.new; length = result } ≡ output_answer Marks journal.now out.old }
+    ensures answer { record { refusal = refusal.new; length = result } ≡ output_outcome Marks journal.now out.old }
     ensures out_after { out.new ≡ out_after Marks journal.now out.old }
 {
-    let written = write_marks(journal, out);
-    *refusal = written.refusal;
-    written.length
+    match write_marks(journal, out) {
+        Ok(count) => {
+            *refusal = 0;
+            count
+        }
+        Err(met) => {
+            *refusal = met.number();
+            0
+        }
+    }
 }
 
 // Marks, handing back just the written part of the output, an empty part if the call is refused. The contract gives the part's bytes, where the part starts,

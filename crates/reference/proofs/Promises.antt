@@ -2,6 +2,7 @@
 use mathlib.Core.Path.{◌≡◌, sym, ap, ◌∙◌}
 use mathlib.Core.List.{List}
 use Prim.Native.Nat.{ℕ}
+use native.Mathlib.Omega.{arith}
 use Rattle.std.specs.Prelude.{Result, Err, IsErrAnd}
 use Rattle.year.specs.declared.Status.{Status}
 use Rattle.reference.specs.declared.Refusal.{Refusal}
@@ -9,7 +10,7 @@ use Rattle.journal.specs.Read.{read_journal}
 use Rattle.reference.specs.Call.{Call}
 use Rattle.reference.specs.Refused.{number_of}
 use Rattle.reference.specs.Answers.{refusal_on, journal_after, status_of, answer, outcome_of, outcome}
-use Rattle.reference.proofs.Refused.{err-gives, err-means, handed-on}
+use Rattle.reference.proofs.Refused.{above_0, err-gives, handed-on}
 use Rattle.reference.proofs.Given.{answer-outcome}
 use Rattle.reference.proofs.Demand1.{demand-1}
 
@@ -22,10 +23,17 @@ pub promised : (call : Call) (journal : List ℕ) (r : Result Status Refusal) (l
     → Promised call journal r left
 promised call journal r left a j = record { answer = a; outcome = ap outcome_of a ∙ answer-outcome call journal; journal_after = j }
 
+-- the outcome of a call's answer
+pub told : (call : Call) (journal : List ℕ) (r : Result Status Refusal) → r ≡ answer call journal → outcome_of r ≡ outcome call journal
+told call journal r e = ap outcome_of e ∙ answer-outcome call journal
+
+-- the answer of a refused call
+pub refused_answer : (call : Call) (journal : List ℕ) (r : Refusal) → number_of r ≡ refusal_on call journal → Err r ≡ answer call journal
+unfolding answer
+refused_answer call journal r e = err-gives (refusal_on call journal) (status_of (read_journal (journal_after call journal))) r e
+
 -- a refused call, from what a `?` hands on
 pub refused : (call : Call) (journal : List ℕ) (r : Refusal) → number_of r ≡ refusal_on call journal
     → {a : Result Status Refusal} → IsErrAnd a (λ e. e ≡ r) → Promised call journal a journal
-unfolding answer
 refused call journal r e {a = a} h =
-    let told = err-gives (refusal_on call journal) (status_of (read_journal (journal_after call journal))) r e in
-    promised call journal a journal (handed-on h told) (sym (demand-1.refused_journal call journal (err-means _ _ r told).0))
+    promised call journal a journal (handed-on h (refused_answer call journal r e)) (sym (demand-1.refused_journal call journal (omega (arith, e, above_0 r))))

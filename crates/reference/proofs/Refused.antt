@@ -65,9 +65,11 @@ unfolding refusals refusal
 refusal-up-to size call model = first-up-to 17 (refusals size call model) (omega arith)
 
 -- the number of a refused call is that of its refusal
+pub named-number : (size : ℕ) (call : Call) (model : Model) → refusal size call model ≢ 0 → number_of (named (refusal size call model)) ≡ refusal size call model
+named-number size call model h = let most = refusal-up-to size call model in numbered (refusal size call model) (omega arith) most
+
 pub named-refusal : (call : Call) (journal : List ℕ) → refusal_on call journal ≢ 0 → number_of (named (refusal_on call journal)) ≡ refusal_on call journal
-named-refusal call journal h =
-    let most = refusal-up-to (length journal) call (read_journal journal) in numbered (refusal_on call journal) (omega arith) most
+named-refusal call journal = named-number (length journal) call (read_journal journal)
 
 -- ---- what is given back
 

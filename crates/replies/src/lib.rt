@@ -44,8 +44,8 @@ pub fn write_answer(answer: Answer, out: &mut [u8]) -> usize
     ensures { Replied out.old (answer_reply answer) out.new result }
 {
     match answer {
-        Answer::Accepted(s) => write_status(s, out),
-        Answer::Refused(number) => write_refusal(number, out),
+        Ok(s) => write_status(s, out),
+        Err(refusal) => write_refusal(refusal.number(), out),
     }
 }
 

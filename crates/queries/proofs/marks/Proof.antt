@@ -6,9 +6,8 @@ use denote.Triple.Spec.{triple_of}
 use denote.Triple.Table.{entered}
 use Rattle.front_part.proofs.Form.{Output}
 use Rattle.front_part.proofs.HandsBack.{hands}
-use Rattle.reference.specs.declared.OutputAnswer.{OutputAnswer}
 use Rattle.reference.specs.Call.{Marks, Write, Ask}
-use Rattle.reference.specs.Answers.{refusal_on, out_after, out_part, output_answer}
+use Rattle.reference.specs.Answers.{refusal_on, out_after, out_part, OutputOutcome, output_outcome}
 use Rattle.reference.proofs.Demand1.{demand-1}
 use Rattle.reference.proofs.Demand2.{demand-2}
 use Rattle.queries.proofs.write_front.Symbol as write_def
@@ -25,9 +24,9 @@ output = record {
   refusal_of = λ journal out. refusal_on (Ask (Write Marks (length out))) journal;
   size = demand-1.out_size Marks;
   front = demand-2.handed_back Marks;
-  Answers = λ journal out end refusal. record { refusal = refusal; length = end } ≡ output_answer Marks journal out;
-  end = λ journal out end refusal e. ap (λ (x : OutputAnswer). x.length) e;
-  refusal = λ journal out end refusal e. ap (λ (x : OutputAnswer). x.refusal) e;
+  Answers = λ journal out end refusal. record { refusal = refusal; length = end } ≡ output_outcome Marks journal out;
+  end = λ journal out end refusal e. ap (λ (x : OutputOutcome). x.length) e;
+  refusal = λ journal out end refusal e. ap (λ (x : OutputOutcome). x.refusal) e;
 }
 
 pub marks_spec : {M : Type 1} → statement M

@@ -1,20 +1,17 @@
-use Rattle.std.proofs.Common.{sym, ◌∙◌}
+use Rattle.std.proofs.Common.{ap, ◌∙◌}
+use Rattle.std.specs.Prelude.{Ok}
 use Rattle.reference.specs.Call.{ReadStatus, Ask}
-use Rattle.reference.proofs.Promises.{refused}
-use Rattle.queries.proofs.Written.{status-ready, status-done}
+use Rattle.reference.proofs.Promises.{told, refused}
+use Rattle.queries.proofs.Written.{status_answer}
 use Rattle.queries.proofs.read_status.Goals as goal
 
-pub returns-then-number-ne0 : goal.returns-then-number-ne0
-returns-then-number-ne0 c =
-    let kept = refused (Ask ReadStatus) c.args.journal.now c.status_refusal-number.result c.status_refusal-number.ensures c.if-number-ne0.true in
-    record { answer = kept.0; outcome = kept.1.0 }
-
-pub status_of-requires : goal.status_of-requires
-status_of-requires c =
-    status-ready c.args.journal.now _ c.scan_journal-scanned.ensures (sym c.status_refusal-number.ensures ∙ c.if-number-ne0.false)
+pub returns-in_err-p : goal.returns-in_err-p
+returns-in_err-p c =
+    let r = refused (Ask ReadStatus) c.args.journal.now c.in_err-p.field-0.0 c.in_err-p.ensures.refusal c.from_residual.ensures.1 in
+    record { answer = r.answer; outcome = r.outcome }
 
 pub returns : goal.returns
 returns c =
-    let none = sym c.status_refusal-number.ensures ∙ c.if-number-ne0.false in
-    let kept = status-done c.args.journal.now _ c.scan_journal-scanned.ensures none c.status_of.result c.status_of.ensures in
-    record { answer = kept.0; outcome = kept.1.0 }
+    let h = c.in_ok-p.ensures in
+    let a = ap Ok c.status_of.ensures ∙ status_answer c.args.journal.now c.in_ok-p.p.now h.year h.refusal in
+    record { answer = a; outcome = told (Ask ReadStatus) c.args.journal.now _ a }
