@@ -10,7 +10,7 @@ ghost use Rattle.exports.specs.Numbers.{size_number, pollutant_numbers, status_n
 use cumsum::{Interval, Mark};
 use marking::marks::mark_byte;
 use reference::Answer;
-use statistics::{Deviation, SampleSize};
+use statistics::Deviation;
 use year::{Figures, Status};
 
 // The blank figures of one pollutant.
@@ -22,7 +22,7 @@ const NO_FIGURES: Figures = Figures {
     },
     cumsum: Interval { low: 0, high: 0 },
     limit: Interval { low: 0, high: 0 },
-    size: SampleSize::Absent,
+    size: None,
     mark: Mark::Unmarked,
 };
 
@@ -35,13 +35,10 @@ const NO_STATUS: Status = Status {
 };
 
 // A sample size in tenths, 0 for none.
-fn size_number(size: SampleSize) -> u64
+fn size_number(size: Option<u64>) -> u64
     ensures { result ≡ size_number size }
 {
-    match size {
-        SampleSize::Tenths(tenths) => tenths,
-        SampleSize::Absent => 0,
-    }
+    size.unwrap_or(0)
 }
 
 // The nine numbers of one pollutant.

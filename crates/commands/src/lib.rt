@@ -1,47 +1,45 @@
-// The key line on a lent journal: the call that a line asks for is made, and its reply is written. There is no precondition on what is lent, and the contract
-// gives every byte of it.
+// The key line on a lent journal: the call that a line asks for is made, and gives its reply. There is no precondition on what is lent, and the contract gives
+// every byte of it.
 #![tactic(auto)]
 
-ghost use Rattle.std.specs.Prelude.{◌≡◌, ◌≤◌, ◌<◌, length};
-ghost use Rattle.buffers.specs.Bytes.{put};
-ghost use Rattle.replies.specs.Replied.{Replied};
+ghost use Rattle.std.specs.Prelude.{◌≡◌, ◌<◌, length};
+ghost use Rattle.protocol.specs.KeyLine.{command_of};
 ghost use Rattle.protocol.specs.Reply.{reply_to, journal_after_line};
+ghost use Rattle.commands.specs.Asked.{asked_by};
 
+use arrayvec::ArrayVec;
 use dispatch::carry_out;
-use numbers::{Numbers, read_numbers};
+use numbers::{MOST_NUMBERS, read_numbers};
 use parser::requested;
-use protocol::{LINE_SIZE, REPLY_SIZE};
-use replies::write_refusal;
+use protocol::LINE_SIZE;
+use reference::Refusal;
+use replies::refusal_reply;
+use text::Reply;
 
-// A line of 1 to 64 bytes: reads its letter and its numbers, and makes their call.
-fn reply_short(journal: &mut [u8], line: &[u8], out: &mut [u8]) -> usize
-    requires { (1 ≤ length line.now) × (length line.now ≤ 64) × (96 ≤ length out.old) }
-    ensures replied { Replied out.old (reply_to line.now journal.old) out.new result }
-    ensures journal_after { journal.new ≡ journal_after_line line.now journal.old }
-{
-    let mut values = [0u32; 31];
-    match read_numbers(line, &mut values) {
-        Numbers::Count(count) => {
-            let request = requested(line[0], &values[..count]);
-            carry_out(journal, request, &values[..count], out)
-        }
-        Numbers::Refused(number) => write_refusal(number, out),
-    }
-}
-
-// Writes the reply to a line at the front of the output, and returns its length, always less than the output's. A line of more than 64 bytes is refused by 1,
-// and an empty one, which has no letter, by 2.
-pub fn reply(journal: &mut [u8], line: &[u8], out: &mut [u8; REPLY_SIZE]) -> usize
-    ensures size { result ≡ length (reply_to line.now journal.old) }
-    ensures out_after { out.new ≡ put out.old 0 (reply_to line.now journal.old) }
-    ensures journal_after { journal.new ≡ journal_after_line line.now journal.old }
-    ensures within { (result < 96) × (length out.new ≡ 96) }
+// A line's letter and its numbers. A line of more than 64 bytes is refused by 1, and an empty one, which has no letter, by 2.
+#[tactic(auto, using(crate::proofs::Lines::long_line, crate::proofs::Lines::empty_line, crate::proofs::Lines::letter_and_numbers, crate::proofs::Lines::refused_line))]
+fn read_line(line: &[u8]) -> Result<(u8, ArrayVec<u32, MOST_NUMBERS>), Refusal>
+    ensures { asked_by result ≡ command_of line.now }
 {
     if LINE_SIZE < line.len() {
-        return write_refusal(1, out);
+        return Err(Refusal::LineTooLong);
     }
-    if line.len() == 0 {
-        return write_refusal(2, out);
+    let &[letter, ..] = line else {
+        return Err(Refusal::LineForm);
+    };
+    let numbers = read_numbers(line)?;
+    Ok((letter, numbers))
+}
+
+// The reply to a line, always shorter than the 96 bytes that a reply may have.
+#[tactic(auto, unfolding(protocol::specs::Reply::reply_to, protocol::specs::Reply::journal_after_line))]
+pub fn reply(journal: &mut [u8], line: &[u8]) -> Reply
+    ensures reply { result ≡ reply_to line.now journal.old }
+    ensures journal_after { journal.new ≡ journal_after_line line.now journal.old }
+    ensures within { length result < 96 }
+{
+    match read_line(line) {
+        Ok((letter, numbers)) => carry_out(journal, requested(letter, numbers.as_slice())),
+        Err(refusal) => refusal_reply(refusal.number()),
     }
-    reply_short(journal, line, out)
 }

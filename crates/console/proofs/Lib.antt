@@ -1,1 +1,1 @@
-mod Keying
+mod Holding

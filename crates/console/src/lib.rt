@@ -1,73 +1,90 @@
 // The input as it arrives, byte by byte: a line is held until its newline, and then answered.
 #![tactic(auto)]
 
-mod holding;
-
-ghost use Rattle.std.specs.Prelude.{◌≡◌, [], ◌∷◌, ◌++◌, min, length, take};
+ghost use Rattle.std.specs.Prelude.{◌≡◌, [], ◌∷◌, ◌++◌, ◌≤◌, length};
 ghost use Rattle.ascii.specs.Text.{byte};
-ghost use Rattle.protocol.specs.Console.{shown_at, held_at, journal_at, shown_at_end, journal_at_end};
+ghost use Rattle.protocol.specs.Console.{held, shown_at, held_at, journal_at, shown_at_end, journal_at_end};
 ghost use Rattle.protocol.specs.Reply.{reply_to, journal_after_line};
-ghost use Rattle.console.specs.Keys.{Shown, buffer_at};
+ghost use Rattle.console.specs.Keys.{shown};
 
-use crate::holding::hold;
+use arrayvec::ArrayVec;
 use commands::reply;
-use protocol::{HELD_SIZE, REPLY_SIZE};
+use protocol::HELD_SIZE;
+use std::marker::Model;
+use text::Reply;
 
-// The smaller of two numbers: the number of bytes said to be held, which has no precondition, is cut to the buffer's size.
-fn least(a: usize, b: usize) -> usize
-    ensures { result ≡ min a b }
-{
-    if a < b {
-        return a;
-    }
-    b
+// A line as it is keyed: its bytes so far. A line over 64 bytes is refused, whatever its other bytes are, so none is held after the 65th.
+#[derive(Drop)]
+pub struct Line {
+    bytes: ArrayVec<u8, HELD_SIZE>,
 }
 
-// The reply to the first `held` bytes of a buffer, read as a line, and a newline.
-fn answer(journal: &mut [u8], buffer: &[u8], held: usize, out: &mut [u8; REPLY_SIZE]) -> usize
-    ensures shown { Shown (reply_to (take held buffer.now) journal.old ++ (byte "\n" ∷ [])) out.old out.new result }
-    ensures journal_after { journal.new ≡ journal_after_line (take held buffer.now) journal.old }
-{
-    let end = reply(journal, &buffer[..least(held, buffer.len())], out);
-    out[end] = b'\n';
-    end + 1
+impl Model for Line {
+    ghost use Rattle.std.specs.Prelude.{List, ℕ};
+
+    ghost Value = { List ℕ };
+
+    ghost view = { λ l. l.bytes.items };
 }
 
-// Takes a byte of the input, after the bytes of its line held at the front of the buffer, and returns how many bytes of the output are to be printed.
-pub fn key(
-    journal: &mut [u8],
-    buffer: &mut [u8; HELD_SIZE],
-    held: &mut usize,
-    byte: u8,
-    out: &mut [u8; REPLY_SIZE],
-) -> usize
-    ensures shown { Shown (shown_at byte (take held.old buffer.old) journal.old) out.old out.new result }
-    ensures line_held { take held.new buffer.new ≡ held_at byte (take held.old buffer.old) }
-    ensures held_after { held.new ≡ length (held_at byte (take held.old buffer.old)) }
-    ensures buffer_after { buffer.new ≡ buffer_at byte buffer.old held.old }
-    ensures journal_after { journal.new ≡ journal_at byte (take held.old buffer.old) journal.old }
-{
-    if byte != b'\n' {
-        *held = hold(buffer, *held, byte);
-        return 0;
+impl Line {
+    pub fn new() -> Line
+        ensures { result ≡ [] }
+    {
+        Line {
+            bytes: ArrayVec::new(),
+        }
     }
-    let end = answer(journal, buffer, *held, out);
-    *held = 0;
-    end
+
+    pub fn as_bytes(&self) -> &[u8]
+        ensures value { result.now ≡ self.now }
+        ensures fits { length result.now ≤ 65 }
+    {
+        self.bytes.as_slice()
+    }
+
+    #[tactic(auto, using(crate::proofs::Holding::held_full, crate::proofs::Holding::held_room))]
+    fn hold(&mut self, byte: u8)
+        ensures { self.new ≡ held self.old byte }
+    {
+        if !self.bytes.is_full() {
+            self.bytes.push(byte);
+        }
+    }
+
+    // Takes a byte of the input, after the bytes held of its line. A newline gives the reply to the line, with a newline.
+    pub fn key(&mut self, journal: &mut [u8], byte: u8) -> Option<Reply>
+        ensures shown { shown result ≡ shown_at byte self.old journal.old }
+        ensures line_held { self.new ≡ held_at byte self.old }
+        ensures journal_after { journal.new ≡ journal_at byte self.old journal.old }
+    {
+        if byte != b'\n' {
+            self.hold(byte);
+            return None;
+        }
+        let reply = answer(journal, self.as_bytes());
+        self.bytes.clear();
+        Some(reply)
+    }
+}
+
+// The reply to a line, and a newline.
+fn answer(journal: &mut [u8], line: &[u8]) -> Reply
+    ensures shown { result ≡ reply_to line.now journal.old ++ (byte "\n" ∷ []) }
+    ensures journal_after { journal.new ≡ journal_after_line line.now journal.old }
+{
+    let mut reply = reply(journal, line);
+    reply.text(b"\n");
+    reply
 }
 
 // The end of the input: the bytes held, if any, are a last line without newline.
-pub fn end_input(
-    journal: &mut [u8],
-    buffer: &[u8],
-    held: usize,
-    out: &mut [u8; REPLY_SIZE],
-) -> usize
-    ensures shown { Shown (shown_at_end (take held buffer.now) journal.old) out.old out.new result }
-    ensures journal_after { journal.new ≡ journal_at_end (take held buffer.now) journal.old }
+pub fn end_input(journal: &mut [u8], line: &[u8]) -> Option<Reply>
+    ensures shown { shown result ≡ shown_at_end line.now journal.old }
+    ensures journal_after { journal.new ≡ journal_at_end line.now journal.old }
 {
-    if least(held, buffer.len()) == 0 {
-        return 0;
+    if line.is_empty() {
+        return None;
     }
-    answer(journal, buffer, held, out)
+    Some(answer(journal, line))
 }

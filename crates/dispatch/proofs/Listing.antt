@@ -1,68 +1,44 @@
--- The marks call on a part of the output gives the reply with the marks.
-use mathlib.Core.Path.{◌≡◌, ap, ◌∙◌}
-use mathlib.Core.Logic.{◌≢◌}
+-- The marks call on an output of 80 bytes gives the reply with the marks.
+use mathlib.Core.Path.{◌≡◌, ap, sym, ◌∙◌}
 use mathlib.Core.List.{List}
-use Prim.Native.Nat.{ℕ, ◌+◌, ◌≤◌}
+use Prim.Native.Nat.{ℕ, ◌≤◌}
 use native.Mathlib.Omega.{arith}
-use lib.ListN.{length, take, drop, length-drop}
-use lib.Seq.{length-take-le}
-use borrow.Rule.Slice.PartMut.{put_mid, put_same}
+use lib.ListN.{length, take}
 use Rattle.buffers.specs.Bytes.{put}
-use Rattle.buffers.proofs.Lists.{put-within}
+use Rattle.buffers.proofs.Lists.{take_put}
 use Rattle.journal.specs.Read.{read_journal}
 use Rattle.reference.specs.Call.{Marks, Write, Ask}
-use Rattle.reference.specs.Answers.{refusal_on, out_bytes, out_after, out_part}
-use Rattle.reference.proofs.Given.{accepted-gives, refused-gives}
+use Rattle.reference.specs.declared.OutputAnswer.{OutputAnswer}
+use Rattle.reference.specs.Answers.{refusal_on, out_bytes, out_after, out_part, output_answer}
+use Rattle.reference.proofs.Given.{accepted-gives}
 use Rattle.reference.proofs.Demand1.{out-fits}
 use Rattle.protocol.specs.Reply.{refusal_reply, marks_reply, query_reply}
-use Rattle.replies.specs.Replied.{Replied, marks_front}
-use Rattle.replies.proofs.Replied.{marks-replied}
 
-module _ (journal out : List ℕ) (room : 96 ≤ length out) where
-  -- the part that is lent for the marks
-  abbrev part : List ℕ
-  part = take 80 (drop 3 out)
-
-  part-size : length part ≡ 80
-  part-size = length-take-le 80 (drop 3 out) (omega (arith, length-drop 3 out))
-
+module _ (journal out : List ℕ) (room : length out ≡ 80) (answer : OutputAnswer) (is : answer ≡ output_answer Marks journal out) where
   abbrev number : ℕ
-  number = refusal_on (Ask (Write Marks (length part))) journal
+  number = refusal_on (Ask (Write Marks 80)) journal
 
   abbrev marks : List ℕ
   marks = out_bytes Marks (read_journal journal)
 
-  -- the output once the part is handed back
-  abbrev back : List ℕ
-  back = put_mid 3 80 out (out_after Marks journal part)
+  number-is : answer.refusal ≡ number
+  number-is = ap (λ (a : OutputAnswer). a.refusal) is ∙ ap (λ size. refusal_on (Ask (Write Marks size)) journal) room
 
-  module _ (refused : number ≢ 0) where
-    as_it_was : back ≡ out
-    unfolding out_after
-    as_it_was = ap (put_mid 3 80 out) (refused-gives (Ask (Write Marks (length part))) journal (put part 0 marks) part refused) ∙ put_same 3 80 out
+  module _ (fine : answer.refusal ≡ 0) where
+    none : number ≡ 0
+    none = sym number-is ∙ fine
 
-    pub refused-reply : (after : List ℕ) (r : ℕ) → Replied back (refusal_reply number) after r → Replied out (query_reply (Write Marks 80) journal) after r
-    refused-reply after r w =
-        let said = refused-gives (Ask (Write Marks (length part))) journal (marks_reply marks) (refusal_reply number) refused in
-        rw (as_it_was, ← said, part-size) at w
-
-  module _ (fine : number ≡ 0) where
-    pub few-marks : length marks ≤ 80
-    few-marks = omega (arith, out-fits Marks journal (length part) fine, part-size)
-
-    with-marks : back ≡ put out 3 marks
-    unfolding out_after
-    with-marks =
-        ap (put_mid 3 80 out) (accepted-gives (Ask (Write Marks (length part))) journal (put part 0 marks) part fine) ∙ put-within out 3 80 marks few-marks (omega arith)
-
-    pub count-is : length (out_part Marks journal part) ≡ length marks
+    count-is : answer.length ≡ length marks
     unfolding out_part
-    count-is = ap length (accepted-gives (Ask (Write Marks (length part))) journal marks _ fine)
+    count-is = ap (λ (a : OutputAnswer). a.length) is ∙ rw room (ap length (accepted-gives (Ask (Write Marks 80)) journal marks _ none))
 
-    pub marks-reply : (lent after : List ℕ) (count r : ℕ) → lent ≡ out_after Marks journal part → count ≡ length marks
-        → after ≡ put (put_mid 3 80 out lent) 0 (marks_front count) → r ≡ length (marks_front count) + count
-        → Replied out (query_reply (Write Marks 80) journal) after r
-    marks-reply lent after count r l n e k =
-        let said = accepted-gives (Ask (Write Marks (length part))) journal (marks_reply marks) (refusal_reply number) fine in
-        let w = marks-replied out marks room few-marks in
-        rw (e, k, n, l, with-marks) (rw (← said, part-size) at w)
+    pub few_marks : answer.length ≤ 80
+    few_marks = omega (arith, out-fits Marks journal 80 none, count-is)
+
+    pub marks_written : (after : List ℕ) → after ≡ out_after Marks journal out → take answer.length after ≡ marks
+    unfolding out_after
+    marks_written after e =
+        rw (e, count-is, room, accepted-gives (Ask (Write Marks 80)) journal (put out 0 marks) out none) (take_put out marks)
+
+    pub marks_replied : (after : List ℕ) → after ≡ out_after Marks journal out → marks_reply (take answer.length after) ≡ query_reply (Write Marks 80) journal
+    marks_replied after e = rw (marks_written after e) (sym (accepted-gives (Ask (Write Marks 80)) journal (marks_reply marks) (refusal_reply number) none))

@@ -1,57 +1,45 @@
 // The numbers of a line, each after one space.
 #![tactic(auto)]
 
-ghost use Rattle.std.specs.Prelude.{◌≡◌, ◌≤◌, length, take};
-ghost use Rattle.buffers.specs.Bytes.{put};
+ghost use Rattle.std.specs.Prelude.{◌≡◌, ◌≤◌, length};
 ghost use Rattle.protocol.specs.Number.{number_outcome_of};
 ghost use Rattle.protocol.specs.KeyLine.{spaced_number, spaced_outcome, numbers_from};
-ghost use Rattle.numbers.specs.Numbers.{counted, listed, numbers_outcome_of, numbers_outcome, numbers_read};
+ghost use Rattle.numbers.specs.Numbers.{numbers_of, numbers_outcome_of, numbers_outcome};
 
+use arrayvec::ArrayVec;
 use protocol::Number;
-use reader::read_number;
+use reader::Reader;
+use reference::Refusal;
 
-// The result of reading a line's numbers: how many there are, or the refusal of a line that is not of the form.
-#[derive(Clone, Copy)]
-pub enum Numbers {
-    Count(usize),
-    Refused(u8),
-}
+// The most numbers of a line: each takes two bytes or more, after the letter, and there are at most 64.
+pub const MOST_NUMBERS: usize = 31;
 
 // A space at a position, and the number after it.
 #[tactic(auto, unfolding(protocol::specs::KeyLine::spaced_number, protocol::specs::KeyLine::spaced_outcome))]
-pub fn spaced_number(line: &[u8], at: usize) -> Number
+pub fn spaced_number(line: &[u8], at: usize) -> Option<Number>
     ensures number { result ≡ spaced_number line.now at }
     ensures outcome { number_outcome_of result ≡ spaced_outcome line.now at }
 {
-    if line.len() <= at {
-        return Number::Nothing;
+    if line.get(at) != Some(&b' ') {
+        return None;
     }
-    if line[at] != b' ' {
-        return Number::Nothing;
-    }
-    read_number(line, at + 1)
+    Reader::new(line, at + 1).next_number()
 }
 
-// Reads the numbers after a line's letter, to the line's end, into the front of `values`. Each takes two bytes or more, so 64 bytes hold at most 31.
-pub fn read_numbers(line: &[u8], values: &mut [u32]) -> Numbers
+// The numbers after a line's letter, to the line's end.
+pub fn read_numbers(line: &[u8]) -> Result<ArrayVec<u32, MOST_NUMBERS>, Refusal>
     requires some_line { 1 ≤ length line.now }
     requires line_size { length line.now ≤ 64 }
-    requires room { length values.old ≡ 31 }
-    ensures numbers { result ≡ counted (numbers_from (length line.now) line.now 1) }
+    ensures numbers { result ≡ numbers_of line.now }
     ensures outcome { numbers_outcome_of result ≡ numbers_outcome line.now }
-    ensures front { take (numbers_outcome_of result).count values.new ≡ listed (numbers_from (length line.now) line.now 1) }
     ensures at_most_31 { (numbers_outcome_of result).count ≤ 31 }
-    ensures values_after { values.new ≡ put values.old 0 (numbers_read (length line.now) line.now 1) }
 {
-    let mut at: usize = 1;
-    let mut n: usize = 0;
+    let mut numbers = ArrayVec::new();
+    let mut at = 1;
     while at < line.len() {
-        let Number::Value { value, next } = spaced_number(line, at) else {
-            return Numbers::Refused(2);
-        };
-        values[n] = value;
-        at = next;
-        n += 1;
+        let number = spaced_number(line, at).ok_or(Refusal::LineForm)?;
+        numbers.push(number.value);
+        at = number.next;
     }
-    Numbers::Count(n)
+    Ok(numbers)
 }

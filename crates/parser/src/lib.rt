@@ -1,133 +1,78 @@
 // From a letter and its numbers to what a line asks for: the second step of parsing, which sees neither the line nor a journal.
 #![tactic(auto)]
 
-ghost use Rattle.std.specs.Prelude.{◌≡◌, length};
-ghost use Rattle.protocol.specs.KeyLine.{setup_from, engine_from, amendment_from, of_count, change_of, of_pairs, call_of};
-ghost use Rattle.reference.specs.Call.{SetUp, Enter};
-ghost use Rattle.parser.specs.Request.{call_for, EnoughForCall, Requests};
+ghost use Rattle.std.specs.Prelude.{◌≡◌, cond, eqb, length};
+ghost use Rattle.protocol.specs.KeyLine.{asked, setup_from, call_of};
+ghost use Rattle.parser.specs.Request.{command_for};
 
-use reference::Change;
+use reference::{Change, Refusal};
 use rounding::Factor;
-use year::{Factors, Pair, Setup};
-
-// The entry that a line asks for. An engine's number and readings stay where they are, in the line's numbers.
-#[derive(Clone, Copy)]
-pub enum EntryRequest {
-    Engine,
-    Change(Change),
-}
+use year::{Pair, Setup};
 
 // The call that a line asks for.
 #[derive(Clone, Copy)]
-pub enum CallRequest {
+pub enum CallRequest<'a> {
     SetUp(Setup),
-    Enter(EntryRequest),
+    Engine {
+        number: u32,
+        hcnox: &'a [u32],
+        co: &'a [u32],
+    },
+    Change(Change),
     WriteMarks,
 }
 
-// What a line asks for: a call, or its refusal.
-#[derive(Clone, Copy)]
-pub enum Request {
-    Make(CallRequest),
-    Refuse(u8),
-}
-
 // "S: P, D, two standards, HC+NOx kind and factor, CO kind and factor."
-fn setup_from(values: &[u32]) -> Setup
-    requires { length values.now ≡ 8 }
-    ensures { result ≡ setup_from values.now }
+fn setup_from(values: &[u32]) -> Result<Setup, Refusal>
+    ensures { result ≡ cond (eqb (length values.now) 8) (Ok (setup_from values.now)) (Err Refusal.LineForm) }
 {
-    Setup {
-        volume: values[0],
-        days: values[1],
-        standards: Pair {
-            hcnox: values[2],
-            co: values[3],
-        },
-        factors: Factors {
+    let &[
+        volume,
+        days,
+        hcnox,
+        co,
+        hcnox_kind,
+        hcnox_value,
+        co_kind,
+        co_value,
+    ] = values
+    else {
+        return Err(Refusal::LineForm);
+    };
+    Ok(Setup {
+        volume,
+        days,
+        standards: Pair { hcnox, co },
+        factors: Pair {
             hcnox: Factor {
-                kind: values[4],
-                value: values[5],
+                kind: hcnox_kind,
+                value: hcnox_value,
             },
             co: Factor {
-                kind: values[6],
-                value: values[7],
+                kind: co_kind,
+                value: co_value,
             },
         },
-    }
+    })
 }
 
-fn setup_request(values: &[u32]) -> Request
-    ensures { Requests result values.now (of_count 8 values.now (SetUp (setup_from values.now))) }
-{
-    if values.len() != 8 {
-        return Request::Refuse(2);
-    }
-    Request::Make(CallRequest::SetUp(setup_from(values)))
-}
-
-// "An odd count of readings is refused by 2": with the engine's number, that is an even count of numbers. The call judges how many readings there are.
-fn engine_request(values: &[u32]) -> Request
-    ensures { Requests result values.now (of_pairs values.now (Enter (engine_from values.now))) }
-{
-    if values.len() % 2 != 1 {
-        return Request::Refuse(2);
-    }
-    Request::Make(CallRequest::Enter(EntryRequest::Engine))
-}
-
-fn amendment_request(values: &[u32]) -> Request
-    ensures { Requests result values.now (change_of 2 values.now (amendment_from values.now)) }
-{
-    if values.len() != 2 {
-        return Request::Refuse(2);
-    }
-    let standards = Pair {
-        hcnox: values[0],
-        co: values[1],
-    };
-    Request::Make(CallRequest::Enter(EntryRequest::Change(Change::Amend(standards))))
-}
-
-// A call that takes no numbers.
-fn bare_request(call: CallRequest, values: &[u32]) -> Request
-    requires { EnoughForCall call values.now }
-    ensures { Requests result values.now (of_count 0 values.now (call_for call values.now)) }
-{
-    if values.len() != 0 {
-        return Request::Refuse(2);
-    }
-    Request::Make(call)
-}
-
-// What a letter and its numbers ask for.
+// What a letter and its numbers ask for. "An odd count of readings is refused by 2"; the call judges how many there are.
 #[tactic(auto, unfolding(protocol::specs::KeyLine::call_of))]
-pub fn requested(letter: u8, values: &[u32]) -> Request
-    ensures { Requests result values.now (call_of letter values.now) }
+pub fn requested<'a>(letter: u8, values: &'a [u32]) -> Result<CallRequest<'a>, Refusal>
+    ensures { command_for result ≡ asked (call_of letter values.now) }
 {
-    if letter == b'S' {
-        return setup_request(values);
-    }
-    if letter == b'E' {
-        return engine_request(values);
-    }
-    if letter == b'A' {
-        return amendment_request(values);
-    }
-    if letter == b'P' {
-        let period = CallRequest::Enter(EntryRequest::Change(Change::BeginPeriod));
-        return bare_request(period, values);
-    }
-    if letter == b'X' {
-        let declaration = CallRequest::Enter(EntryRequest::Change(Change::Declare));
-        return bare_request(declaration, values);
-    }
-    if letter == b'Z' {
-        let deletion = CallRequest::Enter(EntryRequest::Change(Change::Delete));
-        return bare_request(deletion, values);
-    }
-    if letter == b'L' {
-        return bare_request(CallRequest::WriteMarks, values);
-    }
-    Request::Refuse(2)
+    let call = match (letter, values) {
+        (b'S', _) => CallRequest::SetUp(setup_from(values)?),
+        (b'E', &[number, ref readings @ ..]) if readings.len() % 2 == 0 => {
+            let (hcnox, co) = readings.split_at(readings.len() / 2);
+            CallRequest::Engine { number, hcnox, co }
+        }
+        (b'A', &[hcnox, co]) => CallRequest::Change(Change::Amend(Pair { hcnox, co })),
+        (b'P', []) => CallRequest::Change(Change::BeginPeriod),
+        (b'X', []) => CallRequest::Change(Change::Declare),
+        (b'Z', []) => CallRequest::Change(Change::Delete),
+        (b'L', []) => CallRequest::WriteMarks,
+        _ => return Err(Refusal::LineForm),
+    };
+    Ok(call)
 }

@@ -12,10 +12,10 @@ use commands::reply;
 use entries::enter_engine;
 use protocol::REPLY_SIZE;
 use queries::{read_status, write_marks};
-use text::put_bytes;
 
 // A key line without its newline: puts its reply at the front of the output and returns its length. With under 96 bytes of output, does nothing and returns 0.
 #[unsafe(no_mangle)]
+#[tactic(auto, unfolding(exports::specs::Exports::reply_count, exports::specs::Exports::reply_left, exports::specs::Exports::line_left, buffers::specs::Bytes::put))]
 pub extern "C" fn plt_command(journal: &mut [u8], line: &[u8], out: &mut [u8]) -> usize
     ensures count { result ≡ reply_count line.now journal.old out.old }
     ensures out_after { out.new ≡ reply_left line.now journal.old out.old }
@@ -25,9 +25,10 @@ pub extern "C" fn plt_command(journal: &mut [u8], line: &[u8], out: &mut [u8]) -
     if out.len() < REPLY_SIZE {
         return 0;
     }
-    let mut text = [0u8; REPLY_SIZE];
-    let count = reply(journal, line, &mut text);
-    put_bytes(&text[..count], out, 0)
+    let reply = reply(journal, line);
+    let bytes = reply.as_bytes();
+    out[..bytes.len()].copy_from_slice(bytes);
+    bytes.len()
 }
 
 // An engine with its number and its readings for each pollutant: returns the refusal, 0 for none, and writes the figures of the year with it. With

@@ -6,11 +6,11 @@ use Prim.Native.Nat.{ℕ, ◌+◌}
 use lib.ListN.{take, drop}
 use Rattle.ascii.specs.Decimal.{digits, spelt}
 use Rattle.protocol.specs.declared.Number.{Number}
-use Rattle.protocol.specs.declared.Number.TheVariants.{Value, Nothing}
+use Rattle.std.specs.Prelude.{Option, Some, None}
 use Rattle.protocol.specs.Number.{is_number, number_at, number_outcome_of, number_outcome}
 use Rattle.protocol.specs.KeyLine.{space_at, spaced_number, spaced_outcome}
 
-told : (readable : Bool) (value next : ℕ) → number_outcome_of (cond readable (Value value next) Nothing)
+told : (readable : Bool) (value next : ℕ) → number_outcome_of (cond readable (Some (record { value = value; next = next })) None)
     ≡ record { refusal = cond readable 0 2; value = cond readable value 0; next = cond readable next 0 }
 told true value next = refl
 told false value next = refl
@@ -26,12 +26,12 @@ module _ (line : List ℕ) where
   unfolding spaced_number spaced_outcome
   spaced-outcome position = by (space_at line position)
     where
-      by : (space : Bool) → number_outcome_of (cond space (number_at line (position + 1)) Nothing)
+      by : (space : Bool) → number_outcome_of (cond space (number_at line (position + 1)) None)
           ≡ cond space (number_outcome line (position + 1)) (record { refusal = 2; value = 0; next = 0 })
       by true = number-outcome (position + 1)
       by false = refl
 
   -- what a function promises about such an answer, from its first equation
-  pub spaced-promised : (position : ℕ) (n : Number) → n ≡ spaced_number line position
+  pub spaced-promised : (position : ℕ) (n : Option Number) → n ≡ spaced_number line position
       → (n ≡ spaced_number line position) × (number_outcome_of n ≡ spaced_outcome line position)
   spaced-promised position n e = (e, ap number_outcome_of e ∙ spaced-outcome position)

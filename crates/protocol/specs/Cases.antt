@@ -1,5 +1,5 @@
 -- Worked cases of the key line, and document 01's whole run.
-use Rattle.std.specs.Prelude.{◌≡◌, [], ◌∷◌, ◌++◌, replicate, Option, Some, None}
+use Rattle.std.specs.Prelude.{◌≡◌, [], ◌∷◌, ◌++◌, replicate, ℕ, Option, Some, None}
 use Rattle.ascii.specs.Text.{byte, text}
 use Rattle.cumsum.specs.declared.Mark.{Mark}
 use Rattle.cumsum.specs.declared.Mark.TheVariants.{Under, Undecided}

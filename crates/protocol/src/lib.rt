@@ -8,9 +8,9 @@ pub const HELD_SIZE: usize = 65;
 
 pub const REPLY_SIZE: usize = 96;
 
-// What is read at a position of a line: a number with the position after it, or nothing if no number can be read there.
+// A number read at a position of a line, and the position of the next byte.
 #[derive(Clone, Copy)]
-pub enum Number {
-    Value { value: u32, next: usize },
-    Nothing,
+pub struct Number {
+    pub value: u32,
+    pub next: usize,
 }

@@ -1,71 +1,58 @@
 // The digits at a position of a line.
-ghost use Rattle.std.specs.Prelude.{◌≡◌, ◌+◌, ◌-◌, ◌≤◌, drop};
+ghost use Rattle.std.specs.Prelude.{◌≡◌, ◌≤◌, length, min, take};
 ghost use Rattle.protocol.specs.Number.{is_number, number_at};
-ghost use Rattle.ascii.specs.Decimal.{is_digit, digits};
-ghost use Rattle.reader.specs.Digits.{DigitsRead};
+ghost use Rattle.ascii.specs.Decimal.{digits, spelt};
 
 use protocol::Number;
 
-// Digits of a line: the position after them, and the number that they spell.
+// Digits at the front of some bytes: how many they are, and the number that they spell.
 #[derive(Clone, Copy)]
 struct Digits {
-    end: usize,
+    count: usize,
     value: u32,
 }
 
-fn is_digit(b: u8) -> bool
-    ensures { result ≡ is_digit b }
+// The digits at the front, at most nine: a ninth shows that there are too many.
+#[tactic(auto, using(crate::proofs::Spelling::digits_past, crate::proofs::Spelling::digits_stop), unfolding(ascii::specs::Decimal::spelt))]
+fn read_digits(bytes: &[u8]) -> Digits
+    ensures count { result.count ≡ min 9 (digits bytes.now) }
+    ensures value { result.value ≡ spelt 0 (take result.count bytes.now) }
 {
-    b'0' <= b && b <= b'9'
+    let mut value: u32 = 0;
+    for (count, b) in bytes.iter().enumerate() {
+        if count == 9 || !b.is_ascii_digit() {
+            return Digits { count, value };
+        }
+        let digit = u32::from(*b - b'0');
+        value = value * 10 + digit;
+    }
+    Digits {
+        count: bytes.len(),
+        value,
+    }
 }
 
-// The digits at `at`, at most nine: the position after them, and the number that they spell. A ninth shows that there are too many.
-fn read_digits(line: &[u8], at: usize) -> Digits
-    ensures { DigitsRead line.now at result.end result.value }
+// Whether that many digits at the front are a number: 1 to 8 of them, with no leading zero except in 0 itself.
+#[tactic(auto, unfolding(protocol::specs::Number::is_number))]
+fn is_number(bytes: &[u8], count: usize) -> bool
+    requires { count ≤ length bytes.now }
+    ensures { result ≡ is_number bytes.now 0 count }
 {
-    let mut i = at;
-    let mut v: u32 = 0;
-    while i < line.len() {
-        let b = line[i];
-        if !is_digit(b) {
-            return Digits { end: i, value: v };
-        }
-        if i - at == 9 {
-            return Digits { end: i, value: v };
-        }
-        v = v * 10 + (b as u32 - 48);
-        i += 1;
-    }
-    Digits { end: i, value: v }
-}
-
-// Whether the digits from `at` up to `end` are a number: 1 to 8 of them, with no leading zero except in 0 itself.
-#[tactic(auto, using(crate::proofs::Spelling::first_digit), unfolding(protocol::specs::Number::is_number))]
-fn is_number(line: &[u8], at: usize, end: usize) -> bool
-    requires after { at ≤ end }
-    requires among { end ≤ at + digits (drop at line.now) }
-    ensures { result ≡ is_number line.now at (end - at) }
-{
-    if end <= at {
-        return false;
-    }
-    if 8 < end - at {
-        return false;
-    }
-    end - at == 1 || line[at] != b'0'
+    (1..=8).contains(&count) && (count == 1 || bytes[0] != b'0')
 }
 
 // The number at a position of a line, with the position after it.
-pub fn number_at(line: &[u8], at: usize) -> Number
+#[tactic(auto, using(crate::proofs::Spelling::digits_fit, crate::proofs::Spelling::past_end, crate::proofs::Spelling::no_number, crate::proofs::Spelling::number))]
+pub fn number_at(line: &[u8], at: usize) -> Option<Number>
     ensures { result ≡ number_at line.now at }
 {
-    let read = read_digits(line, at);
-    let end = read.end;
-    if !is_number(line, at, end) {
-        return Number::Nothing;
+    let rest = line.get(at..)?;
+    let Digits { count, value } = read_digits(rest);
+    if !is_number(rest, count) {
+        return None;
     }
-    Number::Value {
-        value: read.value,
-        next: end,
-    }
+    Some(Number {
+        value,
+        next: at + count,
+    })
 }

@@ -1,63 +1,61 @@
-// The replies: "NO" and a refusal's number, "OK" and what a technician needs of a status, "OK" and the marks.
+// The replies: "NO" and a refusal's number, "OK" and what a technician needs of a status, "OK" and the marks. Each is shorter than the 96 bytes that it may have.
 #![tactic(auto)]
 
-ghost use Rattle.std.specs.Prelude.{◌≡◌, ◌+◌, ◌≤◌, length};
-ghost use Rattle.buffers.specs.Bytes.{put};
-ghost use Rattle.protocol.specs.Reply.{refusal_reply, status_reply, answer_reply};
-ghost use Rattle.replies.specs.Replied.{Replied, marks_front};
+ghost use Rattle.std.specs.Prelude.{◌≡◌, ◌≤◌, ◌<◌, length};
+ghost use Rattle.protocol.specs.Reply.{refusal_reply, status_reply, answer_reply, marks_reply};
 
 use reference::Answer;
-use text::{put_bytes, put_marks, put_number, put_size};
+use text::Reply;
 use year::Status;
 
 // "NO" and the number of a refusal.
-pub fn write_refusal(number: u8, out: &mut [u8]) -> usize
-    requires { 96 ≤ length out.old }
-    ensures { Replied out.old (refusal_reply number) out.new result }
+pub fn refusal_reply(number: u8) -> Reply
+    ensures reply { result ≡ refusal_reply number }
+    ensures fits { length result < 96 }
 {
-    let at = put_bytes(b"NO", out, 0);
-    put_number(number as u64, out, at)
+    let mut reply = Reply::new();
+    reply.text(b"NO");
+    reply.number(u64::from(number));
+    reply
 }
 
 // "OK", n, verdict, the two newest marks joined, N in tenths for each pollutant.
-pub fn write_status(s: Status, out: &mut [u8]) -> usize
-    requires { 96 ≤ length out.old }
-    ensures { Replied out.old (status_reply s) out.new result }
+pub fn status_reply(s: Status) -> Reply
+    ensures reply { result ≡ status_reply s }
+    ensures fits { length result < 96 }
 {
-    let hcnox = s.hcnox;
-    let hcnox_mark = hcnox.mark;
-    let hcnox_size = hcnox.size;
-    let co = s.co;
-    let co_mark = co.mark;
-    let co_size = co.size;
-    let ok = put_bytes(b"OK", out, 0);
-    let n = put_number(s.n as u64, out, ok);
-    let verdict = put_number(s.verdict as u64, out, n);
-    let marks = put_marks(hcnox_mark, co_mark, out, verdict);
-    let size = put_size(hcnox_size, out, marks);
-    put_size(co_size, out, size)
+    let mut reply = Reply::new();
+    reply.text(b"OK");
+    reply.number(s.n as u64);
+    reply.number(u64::from(s.verdict));
+    reply.marks(s.hcnox.mark, s.co.mark);
+    reply.size(s.hcnox.size);
+    reply.size(s.co.size);
+    reply
 }
 
 // The reply to every call except the marks call.
-pub fn write_answer(answer: Answer, out: &mut [u8]) -> usize
-    requires { 96 ≤ length out.old }
-    ensures { Replied out.old (answer_reply answer) out.new result }
+pub fn answer_reply(answer: Answer) -> Reply
+    ensures reply { result ≡ answer_reply answer }
+    ensures fits { length result < 96 }
 {
     match answer {
-        Ok(s) => write_status(s, out),
-        Err(refusal) => write_refusal(refusal.number(), out),
+        Ok(s) => status_reply(s),
+        Err(refusal) => refusal_reply(refusal.number()),
     }
 }
 
-// What precedes the marks: "OK" and a space, or "OK" alone with no engine. The marks themselves, `count` bytes, are already in place.
-pub fn write_marks_front(count: usize, out: &mut [u8]) -> usize
-    requires room { 96 ≤ length out.old }
-    requires at_most_80 { count ≤ 80 }
-    ensures front { out.new ≡ put out.old 0 (marks_front count) }
-    ensures size { result ≡ length (marks_front count) + count }
+// "OK" and the marks, or "OK" alone with no engine.
+pub fn marks_reply(marks: &[u8]) -> Reply
+    requires { length marks.now ≤ 80 }
+    ensures reply { result ≡ marks_reply marks.now }
+    ensures fits { length result < 96 }
 {
-    if count == 0 {
-        return put_bytes(b"OK", out, 0);
+    let mut reply = Reply::new();
+    reply.text(b"OK");
+    if !marks.is_empty() {
+        reply.text(b" ");
+        reply.text(marks);
     }
-    put_bytes(b"OK ", out, 0) + count
+    reply
 }

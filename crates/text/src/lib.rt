@@ -1,67 +1,84 @@
-// Writing text into a lent output at a position. Each function returns the position after what it wrote.
+// A reply as it is written: text, numbers, sample sizes and marks, one after another.
 #![tactic(auto)]
 
-ghost use Rattle.std.specs.Prelude.{[], ◌∷◌, ◌+◌, ◌≤◌, length};
+ghost use Rattle.std.specs.Prelude.{◌≡◌, [], ◌∷◌, ◌++◌, ◌+◌, ◌≤◌, length};
 ghost use Rattle.cumsum.specs.Marks.{mark_byte};
 ghost use Rattle.protocol.specs.Reply.{spaced, size_text};
 ghost use Rattle.ascii.specs.Decimal.{decimal};
-ghost use Rattle.text.specs.Written.{Written};
 
+use arrayvec::ArrayVec;
 use cumsum::Mark;
 use marking::marks::mark_byte;
-use statistics::SampleSize;
+use protocol::REPLY_SIZE;
+use std::marker::Model;
 
-// All bytes of a text.
-pub fn put_bytes(bytes: &[u8], out: &mut [u8], at: usize) -> usize
-    requires { at + length bytes.now ≤ length out.old }
-    ensures { Written out.old at bytes.now out.new result }
-{
-    let mut i: usize = 0;
-    while i < bytes.len() {
-        out[at + i] = bytes[i];
-        i += 1;
+// The bytes of a reply. A contract sees the list of them.
+#[derive(Drop)]
+pub struct Reply {
+    bytes: ArrayVec<u8, REPLY_SIZE>,
+}
+
+impl Model for Reply {
+    ghost use Rattle.std.specs.Prelude.{List, ℕ, ◌≤◌, length};
+
+    ghost Value = { List ℕ };
+
+    ghost view = { λ r. r.bytes.items };
+}
+
+impl Reply {
+    pub fn new() -> Reply
+        ensures { result ≡ [] }
+    {
+        Reply {
+            bytes: ArrayVec::new(),
+        }
     }
-    at + i
-}
 
-// A number in decimal, at most 20 digits.
-fn put_decimal(n: u64, out: &mut [u8], at: usize) -> usize
-    requires { at + 20 ≤ length out.old }
-    ensures written { Written out.old at (decimal n) out.new result }
-    ensures at_most { result ≤ at + 20 }
-{
-    let mut digits = [0u8; 20];
-    let count = io::decimal(n, &mut digits);
-    put_bytes(&digits[..count], out, at)
-}
-
-// A space, and a number in decimal.
-pub fn put_number(n: u64, out: &mut [u8], at: usize) -> usize
-    requires { at + 21 ≤ length out.old }
-    ensures written { Written out.old at (spaced (decimal n)) out.new result }
-    ensures at_most { result ≤ at + 21 }
-{
-    let after = put_bytes(b" ", out, at);
-    put_decimal(n, out, after)
-}
-
-// A space, and a sample size in tenths or '-' for none.
-pub fn put_size(size: SampleSize, out: &mut [u8], at: usize) -> usize
-    requires { at + 21 ≤ length out.old }
-    ensures written { Written out.old at (spaced (size_text size)) out.new result }
-    ensures at_most { result ≤ at + 21 }
-{
-    match size {
-        SampleSize::Tenths(tenths) => put_number(tenths, out, at),
-        SampleSize::Absent => put_bytes(b" -", out, at),
+    pub fn as_bytes(&self) -> &[u8]
+        ensures value { result.now ≡ self.now }
+        ensures fits { length result.now ≤ 96 }
+    {
+        self.bytes.as_slice()
     }
-}
 
-// A space, and two marks joined.
-pub fn put_marks(hcnox: Mark, co: Mark, out: &mut [u8], at: usize) -> usize
-    requires { at + 3 ≤ length out.old }
-    ensures { Written out.old at (spaced (mark_byte hcnox ∷ mark_byte co ∷ [])) out.new result }
-{
-    let bytes = [b' ', mark_byte(hcnox), mark_byte(co)];
-    put_bytes(&bytes, out, at)
+    // All bytes of a text.
+    pub fn text(&mut self, bytes: &[u8])
+        requires { length self.old + length bytes.now ≤ 96 }
+        ensures { self.new ≡ self.old ++ bytes.now }
+    {
+        self.bytes.try_extend_from_slice(bytes).unwrap();
+    }
+
+    // A space, and a number in decimal, at most 20 digits.
+    pub fn number(&mut self, n: u64)
+        requires { length self.old + 21 ≤ 96 }
+        ensures written { self.new ≡ self.old ++ spaced (decimal n) }
+        ensures at_most { length self.new ≤ length self.old + 21 }
+    {
+        let mut digits = [0u8; 20];
+        let count = io::decimal(n, &mut digits);
+        self.text(b" ");
+        self.text(&digits[..count]);
+    }
+
+    // A space, and a sample size in tenths or '-' for none.
+    pub fn size(&mut self, size: Option<u64>)
+        requires { length self.old + 21 ≤ 96 }
+        ensures written { self.new ≡ self.old ++ spaced (size_text size) }
+        ensures at_most { length self.new ≤ length self.old + 21 }
+    {
+        match size {
+            Some(tenths) => self.number(tenths),
+            None => self.text(b" -"),
+        }
+    }
+
+    // A space, and two marks joined.
+    pub fn marks(&mut self, hcnox: Mark, co: Mark)
+        requires { length self.old + 3 ≤ 96 }
+        ensures { self.new ≡ self.old ++ spaced (mark_byte hcnox ∷ mark_byte co ∷ []) }
+    {
+        self.text(&[b' ', mark_byte(hcnox), mark_byte(co)]);
+    }
 }

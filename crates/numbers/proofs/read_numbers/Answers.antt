@@ -1,74 +1,44 @@
 -- `read_numbers` meets its contract.
-use Rattle.std.proofs.Common.{◌≡◌, ◌∙◌, sym, ap, length, take, arith}
-use mathlib.Core.Option.{none}
-use lib.Seq.{length-take-le}
-use Rattle.protocol.specs.declared.Number.TheVariants.{Value, Nothing}
-use Rattle.protocol.specs.KeyLine.{spaced_number, numbers_from}
-use Rattle.numbers.specs.Numbers.{counted, listed}
-use Rattle.numbers.proofs.Sequence.{spaced-ends, read_none, kept-none, read_all, kept-all, refused, kept-refused, read_next, kept_next, numbers-outcome}
+use Rattle.std.proofs.Common.{◌≡◌, Some, None, lit<, arith}
+use Rattle.std.proofs.lemmas.Result.{err_from_is_err_and}
+use Rattle.reference.specs.declared.Refusal.TheVariants.{LineForm}
+use Rattle.protocol.specs.KeyLine.{spaced_number}
+use Rattle.numbers.proofs.Sequence.{read_none, read_all, refused, Next, read_next, numbers-outcome}
 use Rattle.numbers.proofs.read_numbers.Goals as goal
 
 pub loop-at-init : goal.loop-at-init
-loop-at-init c =
-    record { read = read_none c.args.line.now c.args.values.now c.requires.some_line; kept = kept-none c.args.line.now c.args.values.now }
+loop-at-init c = rw c.new-numbers.ensures (read_none c.args.line.now c.requires.some_line)
 
 -- the rest of the line has no number at `at`
-none-found : (c : goal.In_default) → spaced_number c.args.line.now c.loop-at.at ≡ Nothing
-none-found c = sym c.spaced_number.ensures.number ∙ c.in_default.is
+pub returns-in_err-number-clause-numbers : goal.returns-in_err-number-clause-numbers
+returns-in_err-number-clause-numbers c =
+    let none : spaced_number c.args.line.now c.loop-at.at ≡ None = grind arith in
+    let form : c.in_err-number.field-0.0 ≡ LineForm = grind arith in
+    let p = err_from_is_err_and c.from_residual.result c.from_residual.ensures.1 in
+    rw (p.1, p.2, form) (refused c.args.line.now _ _ c.loop-at.invariant c.loop-at-test.true none)
 
-none_read : (c : goal.In_default) → numbers_from (length c.args.line.now) c.args.line.now 1 ≡ none
-none_read c =
-    refused c.args.line.now c.loop-at.values c.loop-at.at c.loop-at.n c.loop-at.invariant.read c.loop-at-test.true (none-found c)
-
-pub returns-in_default-clause-numbers : goal.returns-in_default-clause-numbers
-returns-in_default-clause-numbers c = sym (ap counted (none_read c))
-
-pub returns-in_default-clause-outcome : goal.returns-in_default-clause-outcome
-returns-in_default-clause-outcome c = numbers-outcome c.args.line.now _ (returns-in_default-clause-numbers c)
-
-pub returns-in_default-clause-front : goal.returns-in_default-clause-front
-returns-in_default-clause-front c = sym (ap listed (none_read c))
-
-pub returns-in_default-clause-values_after : goal.returns-in_default-clause-values_after
-returns-in_default-clause-values_after c =
-    let l = c.loop-at in
-    kept-refused c.args.line.now l.values l.at l.n l.invariant.read c.loop-at-test.true _ l.invariant.kept (none-found c)
+pub returns-in_err-number-clause-outcome : goal.returns-in_err-number-clause-outcome
+returns-in_err-number-clause-outcome c = numbers-outcome c.args.line.now _ (returns-in_err-number-clause-numbers c)
 
 -- a number was found, and there is room for it
-found : (c : goal.In-Value) → spaced_number c.args.line.now c.loop-at.at ≡ Value c.in-Value.value c.in-Value.next
-found c = sym c.spaced_number.ensures.number ∙ c.in-Value.is
+pub push-requires : goal.push-requires
+push-requires c =
+    let found : spaced_number c.args.line.now c.loop-at.at ≡ Some c.in_ok-number.number = grind arith in
+    (lit< tt, (read_next c.args.line.now _ c.loop-at.at c.loop-at.invariant c.loop-at-test.true c.requires.line_size c.in_ok-number.number found).room)
 
-pub bounds-values-n : goal.bounds-values-n
-bounds-values-n c = omega (arith, spaced-ends c.args.line.now c.loop-at.at c.in-Value.value c.in-Value.next (found c))
+next : (c : goal.After-push) → Next c.args.line.now c.loop-at.numbers.items c.loop-at.at c.loop-at.invariant c.loop-at-test.true c.in_ok-number.number
+next c =
+    let found : spaced_number c.args.line.now c.loop-at.at ≡ Some c.in_ok-number.number = grind arith in
+    read_next c.args.line.now c.loop-at.numbers.items c.loop-at.at c.loop-at.invariant c.loop-at-test.true c.requires.line_size c.in_ok-number.number found
 
 pub loop-at-smaller : goal.loop-at-smaller
-loop-at-smaller c = omega (arith, spaced-ends c.args.line.now c.loop-at.at c.in-Value.value c.in-Value.next (found c))
+loop-at-smaller c = omega (arith, (next c).further)
 
 pub loop-at-preserved : goal.loop-at-preserved
-loop-at-preserved c =
-    let l = c.loop-at in
-    let w = c.in-Value in
-    record {
-      read = read_next c.args.line.now l.values l.at l.n l.invariant.read c.loop-at-test.true w.value w.next (found c) (bounds-values-n c);
-      kept = kept_next c.args.line.now l.values l.at l.n l.invariant.read c.loop-at-test.true _ w.value w.next l.invariant.kept (found c) (bounds-values-n c);
-    }
+loop-at-preserved c = rw c.push.ensures.items (next c).read_to
 
 pub returns-clause-numbers : goal.returns-clause-numbers
-returns-clause-numbers c =
-    let l = c.loop-at in
-    let e = read_all c.args.line.now l.values l.at l.n l.invariant.read c.loop-at-test.false in
-    let long : length (take l.n l.values) ≡ l.n = length-take-le l.n l.values (omega arith) in
-    rw (e, long)
+returns-clause-numbers c = read_all c.args.line.now c.loop-at.numbers.items c.loop-at.at c.loop-at.invariant c.loop-at-test.false
 
 pub returns-clause-outcome : goal.returns-clause-outcome
 returns-clause-outcome c = numbers-outcome c.args.line.now _ (returns-clause-numbers c)
-
-pub returns-clause-front : goal.returns-clause-front
-returns-clause-front c =
-    let l = c.loop-at in
-    rw (read_all c.args.line.now l.values l.at l.n l.invariant.read c.loop-at-test.false)
-
-pub returns-clause-values_after : goal.returns-clause-values_after
-returns-clause-values_after c =
-    let l = c.loop-at in
-    kept-all c.args.line.now l.values l.at l.n l.invariant.read _ l.invariant.kept c.loop-at-test.false

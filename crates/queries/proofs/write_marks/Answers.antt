@@ -16,9 +16,9 @@ print_marks-requires c =
 pub overflow_mul-result : goal.overflow_mul-result
 overflow_mul-result c =
     let h = c.in_ok-p.ensures in
-    omega (arith, c.len-2.ensures.value, marks-few c.args.journal.now c.args.out.now _ h.year h.refusal)
+    omega (arith, c.len.ensures.value, marks-few c.args.journal.now c.args.out.now _ h.year h.refusal)
 
 pub returns : goal.returns
 returns c =
     let h = c.in_ok-p.ensures in
-    rw c.len-2.ensures.value (marks-done c.args.journal.now c.args.out.now _ h.year h.refusal c.print_marks.new.out c.print_marks.ensures)
+    rw c.len.ensures.value (marks-done c.args.journal.now c.args.out.now _ h.year h.refusal c.print_marks.new.out c.print_marks.ensures)
