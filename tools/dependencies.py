@@ -11,7 +11,7 @@ import sys
 from glob import glob
 
 # Crates of the kit that may be listed.
-KIT = ['check', 'bytes', 'io']
+KIT = ['check', 'bytes', 'io', 'anyhow']
 
 
 def read(path):
@@ -27,6 +27,9 @@ class Module:
         # `use year::{Pair, Setup};` is `use year::Pair; use year::Setup;`
         text = re.sub(r'^((?:pub )?use [\w:]+::)\{([^{}]*)\};', lambda m: ' '.join(m[1] + name.strip() + ';' for name in m[2].split(',') if name.strip()), text, flags=re.M)
         paths = re.findall(r'(?<![\w:])(\w+(?:::\w+)+)', text)
+        # a module of std that is brought in, as `io`, is not the crate of that name
+        brought_in = {p.removesuffix('::self').split('::')[-1] for p in paths if p.startswith('std::')}
+        paths = [p for p in paths if p.split('::')[0] not in brought_in]
         # name → (crate, name), for every path in the file
         self.imports = {p.split('::')[-1]: (crate if p.startswith('crate::') else p.split('::')[0], p.split('::')[-1]) for p in paths}
         self.items = {}
