@@ -1,124 +1,98 @@
-// Damaging a journal. Each public function leaves the journal as it was.
-ghost use Rattle.std.specs.Prelude.{◌≡◌, ◌≤◌, ◌<◌, length};
+// Damaging a journal.
+ghost use Rattle.std.specs.Prelude.{◌≤◌, ◌<◌};
 
-use crate::tally::{Tally, counted, none};
+use crate::tally::Tally;
+use journal::{JOURNAL_SIZE, SLOTS};
 use scan::scan_journal;
 
+// The longest buffer that is tried.
+const ROOM: usize = 560;
+
 pub fn accepts(journal: &[u8]) -> bool {
-    let s = scan_journal(journal);
-    s.accepted
-}
-
-// Whether the first n bytes of a journal, which has sixteen bytes behind it, are accepted.
-fn accepts_first(journal: &[u8], n: usize) -> bool
-    requires size { length journal.now ≡ 560 }
-    requires within { n ≤ 560 }
-{
-    accepts(&journal[..n])
-}
-
-// Changes one byte to each other value below `end`, from the next one up, wrapping round to the one below.
-fn values(journal: &mut [u8], at: usize, end: u32, first: Tally) -> Tally
-    requires size { length journal.old ≡ 560 }
-    requires inside { at < 560 }
-    requires some_value { 0 < end }
-    requires byte_value { end ≤ 256 }
-{
-    let present = journal[at] as u32;
-    let mut t = first;
-    let mut v = 1;
-    while v < end {
-        journal[at] = ((present + v) % end) as u8;
-        t = counted(t, accepts_first(journal, 544));
-        v += 1;
-    }
-    journal[at] = present as u8;
-    t
-}
-
-pub fn bytes(journal: &mut [u8]) -> Tally
-    requires { length journal.old ≡ 560 }
-{
-    let mut t = none();
-    let mut at = 0;
-    while at < 544 {
-        t = values(journal, at, 256, t);
-        at += 1;
-    }
-    t
-}
-
-// Every length from `from` on that is below `end`.
-fn lengths_from(journal: &[u8], from: usize, end: usize, first: Tally) -> Tally
-    requires size { length journal.now ≡ 560 }
-    requires within { end ≤ 561 }
-{
-    let mut t = first;
-    let mut n = from;
-    while n < end {
-        t = counted(t, accepts_first(journal, n));
-        n += 1;
-    }
-    t
-}
-
-// Every length except a journal's.
-pub fn lengths(journal: &[u8]) -> Tally
-    requires { length journal.now ≡ 560 }
-{
-    let shorter = lengths_from(journal, 0, 544, none());
-    lengths_from(journal, 545, 561, shorter)
-}
-
-// Exchanges the two slots that start at `at`.
-fn exchange(journal: &mut [u8], at: usize)
-    requires size { length journal.old ≡ 560 }
-    requires inside { at ≤ 544 }
-{
-    let end = at + 8;
-    let mut i = at;
-    while i < end {
-        let kept = journal[i];
-        journal[i] = journal[i + 8];
-        journal[i + 8] = kept;
-        i += 1;
-    }
-}
-
-fn exchanges(journal: &mut [u8]) -> Tally
-    requires { length journal.old ≡ 560 }
-{
-    let mut t = none();
-    let mut at = 32;
-    while at < 536 {
-        exchange(journal, at);
-        t = counted(t, accepts_first(journal, 544));
-        exchange(journal, at);
-        at += 8;
-    }
-    t
-}
-
-// Adjacent slots exchanged, and every other number of events.
-pub fn slots(journal: &mut [u8]) -> Tally
-    requires { length journal.old ≡ 560 }
-{
-    let exchanged = exchanges(journal);
-    values(journal, 24, 65, exchanged)
-}
-
-fn accepts_filled(value: u8) -> bool {
-    let journal = [value; 544];
-    accepts(&journal)
+    scan_journal(journal).accepted
 }
 
 // Buffers of 544 equal bytes.
 pub fn filled() -> Tally {
-    let mut t = none();
-    let mut v: u32 = 0;
-    while v < 256 {
-        t = counted(t, accepts_filled(v as u8));
-        v += 1;
+    let mut tally = Tally::new();
+    for value in 0..=u8::MAX {
+        tally.count(accepts(&[value; JOURNAL_SIZE]));
     }
-    t
+    tally
+}
+
+// A journal, with sixteen zeros behind it so that longer buffers can be tried. Each public function leaves it as it was.
+#[derive(Drop)]
+pub struct Sample {
+    buffer: [u8; ROOM],
+}
+
+impl Sample {
+    pub fn new(journal: &[u8; JOURNAL_SIZE]) -> Sample {
+        let mut buffer = [0; ROOM];
+        buffer[..JOURNAL_SIZE].copy_from_slice(journal);
+        Sample { buffer }
+    }
+
+    // Whether the first n bytes are accepted.
+    fn accepts(&self, n: usize) -> bool
+        requires { n ≤ 560 }
+    {
+        accepts(&self.buffer[..n])
+    }
+
+    // Changes one byte to each other value below `end`, from the next one up, wrapping round to the one below.
+    fn values(&mut self, at: usize, end: u32, tally: &mut Tally)
+        requires inside { at < 560 }
+        requires byte_value { end ≤ 256 }
+    {
+        let kept = self.buffer[at];
+        for v in 1..end {
+            self.buffer[at] = ((u32::from(kept) + v) % end) as u8;
+            tally.count(self.accepts(JOURNAL_SIZE));
+        }
+        self.buffer[at] = kept;
+    }
+
+    // Every byte changed to every other value.
+    pub fn bytes(&mut self) -> Tally {
+        let mut tally = Tally::new();
+        for at in 0..JOURNAL_SIZE {
+            self.values(at, 256, &mut tally);
+        }
+        tally
+    }
+
+    // Every length except a journal's.
+    pub fn lengths(&self) -> Tally {
+        let mut tally = Tally::new();
+        for n in 0..=ROOM {
+            if n != JOURNAL_SIZE {
+                tally.count(self.accepts(n));
+            }
+        }
+        tally
+    }
+
+    // Exchanges a slot with the next one.
+    fn exchange(&mut self, slot: usize)
+        requires { slot < 63 }
+    {
+        let at = 32 + 8 * slot;
+        for i in at..at + 8 {
+            self.buffer.swap(i, i + 8);
+        }
+    }
+
+    // Adjacent slots exchanged, and every other number of events.
+    pub fn slots(&mut self) -> Tally {
+        let mut tally = Tally::new();
+        for slot in 0..SLOTS - 1 {
+            self.exchange(slot);
+            tally.count(self.accepts(JOURNAL_SIZE));
+            self.exchange(slot);
+        }
+        self.values(24, 65, &mut tally);
+        tally
+    }
 }

@@ -3,57 +3,38 @@
 // works from documents 01 and 02 alone.
 #![tactic(auto)]
 
-ghost use Rattle.std.specs.Prelude.{◌≡◌, length};
-
-use crate::damage::{accepts, bytes, filled, lengths, slots};
-use crate::lines::{report, say};
+use crate::damage::{Sample, accepts, filled};
 use crate::rewriting::is_rewritten;
-use io::read_full;
-use test_lines::INPUT;
+use journal::JOURNAL_SIZE;
+use std::io::{self, BufWriter, Read, Write};
 
 mod damage;
-mod lines;
 mod rewriting;
 mod tally;
 
-// A journal as it was read.
-fn try_whole(name: &[u8], journal: &[u8])
-    requires { length journal.now ≡ 544 }
-{
-    say(name, b"accepted", accepts(journal));
-    say(name, b"rewritten", is_rewritten(journal));
+// The bytes of a journal's name, which stands before it in the input.
+const NAME_SIZE: usize = 16;
+
+// Tries a journal as it was read, and damaged.
+fn try_journal<W: Write>(out: &mut W, name: &str, journal: &[u8; JOURNAL_SIZE]) -> io::Result<()> {
+    writeln!(out, "{name}accepted {}", u8::from(accepts(journal)))?;
+    writeln!(out, "{name}rewritten {}", u8::from(is_rewritten(journal)))?;
+    let mut sample = Sample::new(journal);
+    writeln!(out, "{name}bytes{}", sample.bytes())?;
+    writeln!(out, "{name}lengths{}", sample.lengths())?;
+    writeln!(out, "{name}slots{}", sample.slots())
 }
 
-// A journal with sixteen zeros behind it, so that longer buffers can be tried.
-fn try_damaged(name: &[u8], journal: &mut [u8])
-    requires { length journal.old ≡ 560 }
-{
-    report(name, b"bytes", bytes(journal));
-    report(name, b"lengths", lengths(journal));
-    report(name, b"slots", slots(journal));
-}
-
-// The next name and journal of the input, if there is one.
-fn try_next(name: &mut [u8], journal: &mut [u8])
-    requires { length journal.old ≡ 560 }
-{
-    if read_full(INPUT, name) < name.len() {
-        return;
+fn main(rt: HostRuntime) -> anyhow::Result<()> {
+    let alloc = rt.alloc();
+    let mut out = BufWriter::new(alloc, io::writer(&rt))?;
+    let mut input = Vec::new(alloc);
+    rt.reader().read_to_end(&mut input)?;
+    for entry in input.chunks_exact(NAME_SIZE + JOURNAL_SIZE) {
+        let (name, journal) = entry.split_at(NAME_SIZE);
+        try_journal(&mut out, str::from_utf8(name)?, journal.try_into()?)?;
     }
-    if read_full(INPUT, &mut journal[..544]) < 544 {
-        return;
-    }
-    try_whole(name, &journal[..544]);
-    try_damaged(name, journal);
-}
-
-fn main() {
-    let mut name = [0u8; 16];
-    let mut journal = [0u8; 560];
-    let mut i: u32 = 0;
-    while i < 100 {
-        try_next(&mut name, &mut journal);
-        i += 1;
-    }
-    report(b"every value     ", b"filled", filled());
+    writeln!(out, "every value     filled{}", filled())?;
+    out.flush()?;
+    Ok(())
 }

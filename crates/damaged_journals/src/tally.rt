@@ -1,33 +1,42 @@
-// How many buffers were tried, how many were accepted, and a digest of which. (No count comes near the modulus; it keeps the sums in 64 bits.)
+// How many buffers were tried, how many were accepted, and a digest of which.
+use std::fmt;
+use test_lines::digested;
+
 #[derive(Clone, Copy)]
 pub struct Tally {
-    pub tried: u64,
-    pub accepted: u64,
-    pub digest: u64,
+    tried: u64,
+    accepted: u64,
+    digest: u64,
 }
 
-pub fn none() -> Tally {
-    Tally {
-        tried: 0,
-        accepted: 0,
-        digest: 1,
+impl Tally {
+    pub fn new() -> Tally {
+        Tally {
+            tried: 0,
+            accepted: 0,
+            digest: 1,
+        }
+    }
+
+    // Counts one more buffer. If it is accepted, its number goes into the digest. (No count comes near the largest; it stops there, so that none wraps.)
+    pub fn count(&mut self, accepted: bool) {
+        self.tried = self.tried.saturating_add(1);
+        let mut number = 0;
+        if accepted {
+            self.accepted = self.accepted.saturating_add(1);
+            number = self.tried;
+        }
+        self.digest = digested(self.digest, number);
     }
 }
 
-// Counts one more buffer. If it is accepted, its number goes into the digest.
-pub fn counted(t: Tally, accepted: bool) -> Tally {
-    let number = t.tried % 4294967291 + 1;
-    let before = t.digest % 4294967291 * 31;
-    if accepted {
-        return Tally {
-            tried: number,
-            accepted: t.accepted % 4294967291 + 1,
-            digest: (before + number) % 4294967291,
-        };
-    }
-    Tally {
-        tried: number,
-        accepted: t.accepted,
-        digest: before % 4294967291,
+impl fmt::Display for Tally {
+    fn fmt<W: fmt::Write>(&self, f: &mut fmt::Formatter<W>) -> fmt::Result {
+        let Tally {
+            tried,
+            accepted,
+            digest,
+        } = *self;
+        write!(f, " tried {tried} accepted {accepted} digest {digest}")
     }
 }

@@ -1,11 +1,17 @@
-// What the test programs share: lines that are printed, lines that are read, and numbers read from text.
+// What the test programs share: the numbers of a line, a setup among them, how a status is printed, a digest.
 #![tactic(auto)]
 
-pub mod input;
-pub mod lines;
+ghost use Rattle.std.specs.Prelude.{◌≡◌, ◌+◌, ◌*◌, ◌%◌};
+
 pub mod numbers;
+pub mod shown;
 
-// The descriptors of the standard input and output.
-pub const INPUT: i32 = 0;
+// What a digest is taken by.
+pub const MODULUS: u64 = 4294967291;
 
-pub const OUTPUT: i32 = 1;
+// A digest with one more number; it begins as 1.
+pub fn digested(digest: u64, number: u64) -> u64
+    ensures { result ≡ (digest % MODULUS * 31 + number % MODULUS) % MODULUS }
+{
+    (digest % MODULUS * 31 + number % MODULUS) % MODULUS
+}

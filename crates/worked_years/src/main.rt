@@ -3,18 +3,18 @@
 #![tactic(auto)]
 
 use crate::work::{first_year, obey};
-use test_lines::input::next_letter;
+use std::io::{self, BufRead, BufReader, BufWriter, Write};
 
-mod rules;
+mod line;
 mod work;
 
-fn main() {
-    let mut p = first_year();
-    let mut i: u32 = 0;
-    while i < 2000 {
-        let mut numbers = [0u32; 300];
-        let letter = next_letter(&mut numbers);
-        p = obey(p, letter, &numbers);
-        i += 1;
+fn main(rt: HostRuntime) -> anyhow::Result<()> {
+    let alloc = rt.alloc();
+    let mut out = BufWriter::new(alloc, io::writer(&rt))?;
+    let mut year = first_year();
+    for line in BufReader::new(alloc, rt.reader())?.lines(alloc) {
+        year = obey(&mut out, alloc, year, &line?)?;
     }
+    out.flush()?;
+    Ok(())
 }

@@ -1,132 +1,79 @@
 // The year after the lines so far. An event that could not be entered leaves it unchanged.
-ghost use Rattle.std.specs.Prelude.{◌≡◌, ◌≤◌, length};
+ghost use Rattle.std.specs.Prelude.{IfOk};
 ghost use Rattle.progress.specs.State.{Consistent};
 
-use crate::rules::print_rule;
+use crate::line::Line;
 use admission::is_admissible;
 use engines::rework::rework;
 use engines::summary::figures_of;
 use progress::Progress;
 use progress::events::{after, start};
-use rounding::Factor;
 use schedule::setup_in_range;
-use test_lines::lines::{end, figures, number, status, text};
+use std::alloc::Global;
+use std::io::{self, Write};
 use test_lines::numbers::setup_of;
+use test_lines::shown::Shown;
 use verdicts::status::status_of;
-use year::{Event, Factors, Pair, Setup};
+use year::Event;
 
 // The year before the first setup of the input.
 pub fn first_year() -> Progress
     ensures { Consistent result }
 {
-    let none = Factor { kind: 0, value: 0 };
-    start(Setup {
-        volume: 1,
-        days: 1,
-        standards: Pair { hcnox: 10, co: 10 },
-        factors: Factors {
-            hcnox: none,
-            co: none,
-        },
-    })
+    start(setup_of([1, 1, 10, 10, 0, 0, 0, 0]))
 }
 
-fn begin(p: Progress, setup: Setup) -> Progress
-    requires { Consistent p }
+fn enter(year: Progress, event: Event) -> Progress
+    requires { Consistent year }
     ensures { Consistent result }
 {
-    if setup_in_range(setup) {
-        return start(setup);
+    if is_admissible(&year, event) {
+        after(year, event)
+    } else {
+        year
     }
-    text(b"no year\n");
-    p
-}
-
-fn enter(p: Progress, e: Event) -> Progress
-    requires { Consistent p }
-    ensures { Consistent result }
-{
-    if is_admissible(&p, e) {
-        return after(p, e);
-    }
-    p
-}
-
-fn at_most(n: u64, most: u64) -> u64
-    ensures { result ≤ most }
-{
-    if most < n {
-        return most;
-    }
-    n
 }
 
 // Prints how many events were entered, the status at 1,024, and the figures of both pollutants recomputed at `resolution`, or at 8,192 if that is less.
-fn print_year(p: &Progress, resolution: u32)
-    requires { Consistent p.now }
+fn print_year<W: Write>(out: &mut W, year: &Progress, resolution: u32) -> io::Result<()>
+    requires { Consistent year.now }
 {
-    let again = rework(&p.engines, at_most(resolution as u64, 8192));
-    let hcnox = again.hcnox;
-    let co = again.co;
-    number(p.stored as u64);
-    status(status_of(p));
-    figures(figures_of(hcnox));
-    figures(figures_of(co));
-    end();
+    let again = rework(&year.engines, u64::from(resolution).min(8192));
+    writeln!(
+        out,
+        "{} {} {} {}",
+        year.stored,
+        Shown(status_of(year)),
+        Shown(figures_of(again.hcnox)),
+        Shown(figures_of(again.co))
+    )
 }
 
-fn event_of(letter: u8, numbers: &[u32]) -> Event
-    requires { length numbers.now ≡ 300 }
+// The year after a line.
+pub fn obey<W: Write>(
+    out: &mut W,
+    alloc: Global,
+    year: Progress,
+    line: &str,
+) -> anyhow::Result<Progress>
+    requires { Consistent year }
+    ensures { IfOk result Consistent }
 {
-    if letter == b'E' {
-        let results = Pair {
-            hcnox: numbers[2],
-            co: numbers[3],
-        };
-        return Event::Engine {
-            number: numbers[0],
-            readings: numbers[1],
-            results,
-        };
+    if let Some(words) = line.strip_prefix("T ") {
+        write!(out, "{words}")?;
+        return Ok(year);
     }
-    if letter == b'A' {
-        return Event::Amendment(Pair {
-            hcnox: numbers[0],
-            co: numbers[1],
-        });
+    match Line::parse(alloc, line)? {
+        Line::End => writeln!(out)?,
+        Line::Number(number) => write!(out, " {number}")?,
+        Line::Begin(setup) => {
+            if setup_in_range(setup) {
+                return Ok(start(setup));
+            }
+            writeln!(out, "no year")?;
+        }
+        Line::Enter(event) => return Ok(enter(year, event)),
+        Line::Figures(resolution) => print_year(out, &year, resolution)?,
     }
-    if letter == b'P' {
-        return Event::NextPeriod;
-    }
-    if letter == b'Z' {
-        return Event::Deletion;
-    }
-    Event::Declaration
-}
-
-fn is_event(letter: u8) -> bool {
-    match letter {
-        b'E' | b'A' | b'P' | b'X' | b'Z' => true,
-        _ => false,
-    }
-}
-
-// The year after a line, given as its letter and numbers.
-pub fn obey(p: Progress, letter: u8, numbers: &[u32]) -> Progress
-    requires consistent { Consistent p }
-    requires size { length numbers.now ≡ 300 }
-    ensures { Consistent result }
-{
-    if letter == b'S' {
-        return begin(p, setup_of(numbers));
-    }
-    if is_event(letter) {
-        return enter(p, event_of(letter, numbers));
-    }
-    if letter == b'F' {
-        print_year(&p, numbers[0]);
-        return p;
-    }
-    print_rule(letter, numbers);
-    p
+    Ok(year)
 }

@@ -1,9 +1,7 @@
 -- The part of the journal that is lent is at most as long as its array.
-use Rattle.std.proofs.Common.{◌-◌, ◌≤◌}
+use Rattle.std.proofs.Common.{◌≤◌}
 use Rattle.call_lists.proofs.main.Given as goal
 
-abbrev pub invariant-loop-i : goal.invariant-loop-i
-invariant-loop-i l = l.lent ≤ 560
-
-abbrev pub decreases-loop-i : goal.decreases-loop-i
-decreases-loop-i l = 40000 - l.i
+abbrev pub invariant-loop-line : goal.invariant-loop-line
+invariant-loop-line l =
+    (goal.iterator-loop-line).can_next l.line-iterator × (goal.iterator-loop-line).is_finite l.line-iterator × (l.session.lent ≤ 560)

@@ -1,10 +1,7 @@
 -- The year is consistent.
-use Rattle.std.proofs.Common.{◌-◌}
 use Rattle.progress.specs.State.{Consistent}
 use Rattle.worked_years.proofs.main.Given as goal
 
-abbrev pub invariant-loop-i : goal.invariant-loop-i
-invariant-loop-i l = Consistent l.p
-
-abbrev pub decreases-loop-i : goal.decreases-loop-i
-decreases-loop-i l = 2000 - l.i
+abbrev pub invariant-loop-line : goal.invariant-loop-line
+invariant-loop-line l =
+    (goal.iterator-loop-line).can_next l.line-iterator × (goal.iterator-loop-line).is_finite l.line-iterator × Consistent l.year

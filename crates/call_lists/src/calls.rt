@@ -1,0 +1,38 @@
+// The public calls, and how their answers are printed.
+use entries::{enter_change, enter_engine, set_up};
+use queries::read_status;
+use reference::{Answer, Change};
+use std::io::{self, Write};
+use test_lines::shown::Shown;
+use year::Setup;
+
+#[derive(Drop)]
+pub enum Call {
+    SetUp(Setup),
+    Engine {
+        number: u32,
+        hcnox: Vec<u32>,
+        co: Vec<u32>,
+    },
+    Change(Change),
+    Status,
+}
+
+impl Call {
+    pub fn make(&self, journal: &mut [u8]) -> Answer {
+        match self {
+            Call::SetUp(setup) => set_up(journal, *setup),
+            Call::Engine { number, hcnox, co } => enter_engine(journal, *number, hcnox, co),
+            Call::Change(change) => enter_change(journal, *change),
+            Call::Status => read_status(journal),
+        }
+    }
+}
+
+// The refusal, 0 for none, and the status; a refusal has zeros, '-' marks and no N.
+pub fn write_answer<W: Write>(out: &mut W, answer: Answer) -> io::Result<()> {
+    match answer {
+        Answer::Accepted(status) => write!(out, "0 {}", Shown(status)),
+        Answer::Refused(number) => write!(out, "{number} 0 0 0 0 0 0 0 0 0 - - 0 0 0 0 0 0 0 - -"),
+    }
+}

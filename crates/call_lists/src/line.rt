@@ -1,0 +1,50 @@
+// What a line asks for.
+use crate::calls::Call;
+use anyhow::{Context, bail};
+use reference::Change;
+use std::alloc::Global;
+use test_lines::numbers::{numbers, setup_of};
+use year::Pair;
+
+#[derive(Drop)]
+pub enum Line {
+    // the following calls are lent so many bytes of the array
+    Lend(usize),
+    // all bytes of the array become zero
+    Clear,
+    // the byte at this place becomes this one
+    Write(usize, u8),
+    // the strip, into so many bytes
+    Strip(usize),
+    Call(Call),
+}
+
+impl Line {
+    pub fn parse(alloc: Global, line: &str) -> anyhow::Result<Line> {
+        let (letter, rest) = line.split_once(' ').unwrap_or((line, ""));
+        let numbers = numbers(alloc, rest)?;
+        Ok(match (letter, numbers.as_slice()) {
+            ("B", &[size]) => Line::Lend(size as usize),
+            ("N", []) => Line::Clear,
+            ("W", &[place, byte]) => Line::Write(place as usize, u8::try_from(byte)?),
+            ("L", &[size]) => Line::Strip(size as usize),
+            ("S", setup) => Line::Call(Call::SetUp(setup_of(setup.try_into()?))),
+            ("E", &[number, count, _, ref readings @ ..]) => {
+                let (hcnox, co) = readings
+                    .split_at_checked(count as usize)
+                    .context("too few readings")?;
+                Line::Call(Call::Engine {
+                    number,
+                    hcnox: hcnox.to_vec(alloc)?,
+                    co: co.to_vec(alloc)?,
+                })
+            }
+            ("A", &[hcnox, co]) => Line::Call(Call::Change(Change::Amend(Pair { hcnox, co }))),
+            ("P", []) => Line::Call(Call::Change(Change::BeginPeriod)),
+            ("X", []) => Line::Call(Call::Change(Change::Declare)),
+            ("Z", []) => Line::Call(Call::Change(Change::Delete)),
+            ("Q", []) => Line::Call(Call::Status),
+            _ => bail!("no such line: {line}"),
+        })
+    }
+}

@@ -1,0 +1,97 @@
+// A journal, and the lines carried out on it.
+ghost use Rattle.std.specs.Prelude.{◌≡◌, ◌≤◌};
+
+use crate::calls::{Call, write_answer};
+use crate::line::Line;
+use queries::{marks, write_marks};
+use std::alloc::Global;
+use std::io::{self, Write};
+use test_lines::digested;
+
+// An array of 560 bytes, of which the calls are lent the first `lent`.
+#[derive(Drop)]
+pub struct Session {
+    journal: [u8; 560],
+    pub lent: usize,
+}
+
+fn digest(bytes: &[u8]) -> u64 {
+    bytes
+        .iter()
+        .fold(1, |digest, b| digested(digest, u64::from(*b)))
+}
+
+// The second form of the marks: the refusal, and the part handed back.
+fn hand_back<W: Write>(out: &mut W, journal: &[u8], strip: &mut [u8]) -> io::Result<()> {
+    let mut refusal = 255;
+    let part = marks(journal, strip, &mut refusal);
+    write!(out, " {refusal} |")?;
+    out.write_all(part)?;
+    write!(out, "|")
+}
+
+impl Session {
+    pub fn new() -> Session
+        ensures { result.lent ≤ 560 }
+    {
+        Session {
+            journal: [0; 560],
+            lent: 544,
+        }
+    }
+
+    // Carries out a line.
+    pub fn obey<W: Write>(&mut self, out: &mut W, alloc: Global, line: &str) -> anyhow::Result<()>
+        requires { self.old.lent ≤ 560 }
+        ensures { self.new.lent ≤ 560 }
+    {
+        if line.starts_with('#') {
+            writeln!(out, "{line}")?;
+            return Ok(());
+        }
+        match Line::parse(alloc, line)? {
+            Line::Lend(size) => self.lent = size.min(560),
+            Line::Clear => self.journal.fill(0),
+            Line::Write(place, byte) => self.write(place, byte),
+            Line::Strip(size) => self.strip(out, size)?,
+            Line::Call(call) => self.call(out, &call)?,
+        }
+        Ok(())
+    }
+
+    fn write(&mut self, place: usize, byte: u8)
+        ensures { self.new.lent ≡ self.old.lent }
+    {
+        if let Some(b) = self.journal.get_mut(place) {
+            *b = byte;
+        }
+    }
+
+    // The answer, and a digest of all 560 bytes.
+    fn call<W: Write>(&mut self, out: &mut W, call: &Call) -> io::Result<()>
+        requires { self.old.lent ≤ 560 }
+        ensures { self.new.lent ≡ self.old.lent }
+    {
+        let lent = self.lent;
+        let answer = call.make(&mut self.journal[..lent]);
+        write_answer(out, answer)?;
+        writeln!(out, " {}", digest(&self.journal))
+    }
+
+    // Both forms of the marks, each into an array of dots: the refusal, the length and the whole array; the refusal, the part handed back and a digest of the
+    // array; and a digest of the journal.
+    fn strip<W: Write>(&self, out: &mut W, size: usize) -> io::Result<()>
+        requires { self.now.lent ≤ 560 }
+    {
+        let journal = &self.journal[..self.lent];
+        let size = size.min(100);
+        let mut strip = [b'.'; 100];
+        let written = write_marks(journal, &mut strip[..size]);
+        write!(out, "{} {} |", written.refusal, written.length)?;
+        out.write_all(&strip)?;
+        write!(out, "|")?;
+        strip.fill(b'.');
+        hand_back(out, journal, &mut strip[..size])?;
+        writeln!(out, " {} {}", digest(&strip), digest(&self.journal))
+    }
+}
