@@ -9,7 +9,9 @@ use Rattle.buffers.specs.Bytes.{put, zeros}
 use Rattle.buffers.proofs.Lists.{take_put}
 use Rattle.reference.specs.Call.{Call}
 use Rattle.reference.specs.Answers.{outcome_of, outcome, journal_after}
-use Rattle.reference.specs.declared.Answer.{Answer}
+use Rattle.std.specs.Prelude.{Result}
+use Rattle.year.specs.declared.Status.{Status}
+use Rattle.reference.specs.declared.Refusal.{Refusal}
 use Rattle.protocol.specs.Reply.{reply_to, journal_after_line}
 use Rattle.text.specs.Written.{Written}
 use Rattle.exports.specs.Numbers.{status_numbers}
@@ -37,7 +39,7 @@ module _ (call : Call) (journal figures : List ℕ) where
   unfolding refusal_given figures_left journal_left
   not-given h = rw (lt-ltb (length figures) 20 h) (refl, (refl, refl))
 
-  pub is-given : (a : Answer) (after : List ℕ) (number : ℕ) → 20 ≤ length figures → outcome_of a ≡ outcome call journal
+  pub is-given : (a : Result Status Refusal) (after : List ℕ) (number : ℕ) → 20 ≤ length figures → outcome_of a ≡ outcome call journal
       → (number ≡ (outcome_of a).refusal) × (after ≡ put figures 0 (status_numbers (outcome_of a).status))
       → (number ≡ refusal_given call journal figures) × (after ≡ figures_left call journal figures)
   unfolding refusal_given figures_left

@@ -4,7 +4,7 @@
 
 ghost use Rattle.std.specs.Prelude.{◌≡◌, ◌<◌};
 ghost use Rattle.reference.specs.Call.{engine_entry, Marks, ReadStatus, Enter, Ask};
-ghost use Rattle.reference.specs.Answers.{out_after, output_answer};
+ghost use Rattle.reference.specs.Answers.{out_after, output_outcome};
 ghost use Rattle.exports.specs.Exports.{reply_count, reply_left, line_left, refusal_given, figures_left, journal_left};
 
 use answers::put_answer;
@@ -65,11 +65,18 @@ pub extern "C" fn plt_status(journal: &[u8], figures: &mut [u64]) -> u8
 // Marks: returns the refusal, 0 for none, and writes the marks at the front of the output, and into `written` how many bytes they are.
 #[unsafe(no_mangle)]
 pub extern "C" fn plt_marks(journal: &[u8], out: &mut [u8], written: &mut usize) -> u8
-    ensures refusal { result ≡ (output_answer Marks journal.now out.old).refusal }
+    ensures refusal { result ≡ (output_outcome Marks journal.now out.old).refusal }
     ensures out_after { out.new ≡ out_after Marks journal.now out.old }
-    ensures written_after { written.new ≡ (output_answer Marks journal.now out.old).length }
+    ensures written_after { written.new ≡ (output_outcome Marks journal.now out.old).length }
 {
-    let answer = write_marks(journal, out);
-    *written = answer.length;
-    answer.refusal
+    match write_marks(journal, out) {
+        Ok(count) => {
+            *written = count;
+            0
+        }
+        Err(refusal) => {
+            *written = 0;
+            refusal.number()
+        }
+    }
 }
