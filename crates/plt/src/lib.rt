@@ -15,6 +15,7 @@ use queries::{read_status, write_marks};
 use text::put_bytes;
 
 // A key line without its newline: puts its reply at the front of the output and returns its length. With under 96 bytes of output, does nothing and returns 0.
+#[tactic(auto, unfolding(exports::specs::Exports::reply_count, exports::specs::Exports::reply_left, exports::specs::Exports::line_left))]
 #[unsafe(no_mangle)]
 pub extern "C" fn plt_command(journal: &mut [u8], line: &[u8], out: &mut [u8]) -> usize
     ensures count { result ≡ reply_count line.now journal.old out.old }
@@ -32,6 +33,7 @@ pub extern "C" fn plt_command(journal: &mut [u8], line: &[u8], out: &mut [u8]) -
 
 // An engine with its number and its readings for each pollutant: returns the refusal, 0 for none, and writes the figures of the year with it. With
 // room for under twenty figures, does nothing and returns 255.
+#[tactic(auto, unfolding(exports::specs::Exports::refusal_given, exports::specs::Exports::figures_left, exports::specs::Exports::journal_left))]
 #[unsafe(no_mangle)]
 pub extern "C" fn plt_engine(
     journal: &mut [u8],
@@ -51,6 +53,7 @@ pub extern "C" fn plt_engine(
 }
 
 // Status: returns the refusal, 0 for none, and writes the figures. With room for under twenty figures, does nothing and returns 255.
+#[tactic(auto, unfolding(exports::specs::Exports::refusal_given, exports::specs::Exports::figures_left, exports::specs::Exports::journal_left))]
 #[unsafe(no_mangle)]
 pub extern "C" fn plt_status(journal: &[u8], figures: &mut [u64]) -> u8
     ensures refusal { result ≡ refusal_given (Ask ReadStatus) journal.now figures.old }
