@@ -26,9 +26,10 @@ class Module:
         text = read(path)
         # `use year::{Pair, Setup};` is `use year::Pair; use year::Setup;`
         text = re.sub(r'^((?:pub )?use [\w:]+::)\{([^{}]*)\};', lambda m: ' '.join(m[1] + name.strip() + ';' for name in m[2].split(',') if name.strip()), text, flags=re.M)
-        # a module of std that is imported by its name, as `io` by `use std::io;`, is no crate
-        modules = set(re.findall(r'^use std::(\w+);', text, re.M))
-        paths = [p for p in re.findall(r'(?<![\w:])(\w+(?:::\w+)+)', text) if p.split('::')[0] not in modules]
+        paths = re.findall(r'(?<![\w:])(\w+(?:::\w+)+)', text)
+        # a module of std that is brought in, as `io`, is not the crate of that name
+        brought_in = {p.removesuffix('::self').split('::')[-1] for p in paths if p.startswith('std::')}
+        paths = [p for p in paths if p.split('::')[0] not in brought_in]
         # name → (crate, name), for every path in the file
         self.imports = {p.split('::')[-1]: (crate if p.startswith('crate::') else p.split('::')[0], p.split('::')[-1]) for p in paths}
         self.items = {}

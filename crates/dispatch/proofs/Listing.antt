@@ -8,13 +8,12 @@ use Rattle.buffers.specs.Bytes.{put}
 use Rattle.buffers.proofs.Lists.{take_put}
 use Rattle.journal.specs.Read.{read_journal}
 use Rattle.reference.specs.Call.{Marks, Write, Ask}
-use Rattle.reference.specs.declared.OutputAnswer.{OutputAnswer}
-use Rattle.reference.specs.Answers.{refusal_on, out_bytes, out_after, out_part, output_answer}
-use Rattle.reference.proofs.Given.{accepted-gives}
+use Rattle.reference.specs.Answers.{refusal_on, out_bytes, out_after, out_part, OutputOutcome, output_outcome}
+use Rattle.reference.proofs.Given.{accepted-gives, refused-gives}
 use Rattle.reference.proofs.Demand1.{out-fits}
 use Rattle.protocol.specs.Reply.{refusal_reply, marks_reply, query_reply}
 
-module _ (journal out : List ℕ) (room : length out ≡ 80) (answer : OutputAnswer) (is : answer ≡ output_answer Marks journal out) where
+module _ (journal out : List ℕ) (room : length out ≡ 80) (answer : OutputOutcome) (is : answer ≡ output_outcome Marks journal out) where
   abbrev number : ℕ
   number = refusal_on (Ask (Write Marks 80)) journal
 
@@ -22,7 +21,11 @@ module _ (journal out : List ℕ) (room : length out ≡ 80) (answer : OutputAns
   marks = out_bytes Marks (read_journal journal)
 
   number-is : answer.refusal ≡ number
-  number-is = ap (λ (a : OutputAnswer). a.refusal) is ∙ ap (λ size. refusal_on (Ask (Write Marks size)) journal) room
+  number-is = ap (λ (a : OutputOutcome). a.refusal) is ∙ ap (λ size. refusal_on (Ask (Write Marks size)) journal) room
+
+  pub refusal_replied : (answer.refusal ≡ 0 → ⊥) → refusal_reply answer.refusal ≡ query_reply (Write Marks 80) journal
+  refusal_replied some =
+      ap refusal_reply number-is ∙ sym (refused-gives (Ask (Write Marks 80)) journal (marks_reply marks) (refusal_reply number) (λ none. some (number-is ∙ none)))
 
   module _ (fine : answer.refusal ≡ 0) where
     none : number ≡ 0
@@ -30,7 +33,7 @@ module _ (journal out : List ℕ) (room : length out ≡ 80) (answer : OutputAns
 
     count-is : answer.length ≡ length marks
     unfolding out_part
-    count-is = ap (λ (a : OutputAnswer). a.length) is ∙ rw room (ap length (accepted-gives (Ask (Write Marks 80)) journal marks _ none))
+    count-is = ap (λ (a : OutputOutcome). a.length) is ∙ rw room (ap length (accepted-gives (Ask (Write Marks 80)) journal marks _ none))
 
     pub few_marks : answer.length ≤ 80
     few_marks = omega (arith, out-fits Marks journal 80 none, count-is)

@@ -4,18 +4,19 @@
 
 ghost use Rattle.std.specs.Prelude.{◌≡◌, ◌<◌};
 ghost use Rattle.reference.specs.Call.{engine_entry, Marks, ReadStatus, Enter, Ask};
-ghost use Rattle.reference.specs.Answers.{out_after, output_answer};
+ghost use Rattle.reference.specs.Answers.{out_after, output_outcome};
 ghost use Rattle.exports.specs.Exports.{reply_count, reply_left, line_left, refusal_given, figures_left, journal_left};
 
 use answers::put_answer;
+use buffers::front::put_front;
 use commands::reply;
 use entries::enter_engine;
 use protocol::REPLY_SIZE;
 use queries::{read_status, write_marks};
 
 // A key line without its newline: puts its reply at the front of the output and returns its length. With under 96 bytes of output, does nothing and returns 0.
+#[tactic(auto, unfolding(exports::specs::Exports::reply_count, exports::specs::Exports::reply_left, exports::specs::Exports::line_left))]
 #[unsafe(no_mangle)]
-#[tactic(auto, unfolding(exports::specs::Exports::reply_count, exports::specs::Exports::reply_left, exports::specs::Exports::line_left, buffers::specs::Bytes::put))]
 pub extern "C" fn plt_command(journal: &mut [u8], line: &[u8], out: &mut [u8]) -> usize
     ensures count { result ≡ reply_count line.now journal.old out.old }
     ensures out_after { out.new ≡ reply_left line.now journal.old out.old }
@@ -27,12 +28,13 @@ pub extern "C" fn plt_command(journal: &mut [u8], line: &[u8], out: &mut [u8]) -
     }
     let reply = reply(journal, line);
     let bytes = reply.as_bytes();
-    out[..bytes.len()].copy_from_slice(bytes);
+    put_front(out, bytes);
     bytes.len()
 }
 
 // An engine with its number and its readings for each pollutant: returns the refusal, 0 for none, and writes the figures of the year with it. With
 // room for under twenty figures, does nothing and returns 255.
+#[tactic(auto, unfolding(exports::specs::Exports::refusal_given, exports::specs::Exports::figures_left, exports::specs::Exports::journal_left))]
 #[unsafe(no_mangle)]
 pub extern "C" fn plt_engine(
     journal: &mut [u8],
@@ -52,6 +54,7 @@ pub extern "C" fn plt_engine(
 }
 
 // Status: returns the refusal, 0 for none, and writes the figures. With room for under twenty figures, does nothing and returns 255.
+#[tactic(auto, unfolding(exports::specs::Exports::refusal_given, exports::specs::Exports::figures_left, exports::specs::Exports::journal_left))]
 #[unsafe(no_mangle)]
 pub extern "C" fn plt_status(journal: &[u8], figures: &mut [u64]) -> u8
     ensures refusal { result ≡ refusal_given (Ask ReadStatus) journal.now figures.old }
@@ -66,11 +69,18 @@ pub extern "C" fn plt_status(journal: &[u8], figures: &mut [u64]) -> u8
 // Marks: returns the refusal, 0 for none, and writes the marks at the front of the output, and into `written` how many bytes they are.
 #[unsafe(no_mangle)]
 pub extern "C" fn plt_marks(journal: &[u8], out: &mut [u8], written: &mut usize) -> u8
-    ensures refusal { result ≡ (output_answer Marks journal.now out.old).refusal }
+    ensures refusal { result ≡ (output_outcome Marks journal.now out.old).refusal }
     ensures out_after { out.new ≡ out_after Marks journal.now out.old }
-    ensures written_after { written.new ≡ (output_answer Marks journal.now out.old).length }
+    ensures written_after { written.new ≡ (output_outcome Marks journal.now out.old).length }
 {
-    let answer = write_marks(journal, out);
-    *written = answer.length;
-    answer.refusal
+    match write_marks(journal, out) {
+        Ok(count) => {
+            *written = count;
+            0
+        }
+        Err(refusal) => {
+            *written = 0;
+            refusal.number()
+        }
+    }
 }
