@@ -32,7 +32,11 @@ impl Call {
 // The refusal, 0 for none, and the status; a refusal has zeros, '-' marks and no N.
 pub fn write_answer<W: Write>(out: &mut W, answer: Answer) -> io::Result<()> {
     match answer {
-        Answer::Accepted(status) => write!(out, "0 {}", Shown(status)),
-        Answer::Refused(number) => write!(out, "{number} 0 0 0 0 0 0 0 0 0 - - 0 0 0 0 0 0 0 - -"),
+        Ok(status) => write!(out, "0 {}", Shown(status)),
+        Err(refusal) => write!(
+            out,
+            "{} 0 0 0 0 0 0 0 0 0 - - 0 0 0 0 0 0 0 - -",
+            refusal.number()
+        ),
     }
 }

@@ -86,8 +86,11 @@ impl Session {
         let journal = &self.journal[..self.lent];
         let size = size.min(100);
         let mut strip = [b'.'; 100];
-        let written = write_marks(journal, &mut strip[..size]);
-        write!(out, "{} {} |", written.refusal, written.length)?;
+        let (refusal, written) = match write_marks(journal, &mut strip[..size]) {
+            Ok(count) => (0, count),
+            Err(refusal) => (refusal.number(), 0),
+        };
+        write!(out, "{refusal} {written} |")?;
         out.write_all(&strip)?;
         write!(out, "|")?;
         strip.fill(b'.');

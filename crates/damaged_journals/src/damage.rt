@@ -9,7 +9,7 @@ use scan::scan_journal;
 const ROOM: usize = 560;
 
 pub fn accepts(journal: &[u8]) -> bool {
-    scan_journal(journal).accepted
+    scan_journal(journal).is_some()
 }
 
 // Buffers of 544 equal bytes.

@@ -4,7 +4,7 @@ ghost use Rattle.protocol.specs.KeyLine.{setup_from};
 
 use rounding::Factor;
 use std::alloc::Global;
-use year::{Factors, Pair, Setup};
+use year::{Pair, Setup};
 
 // The numbers of a text, with white space between them.
 pub fn numbers(alloc: Global, text: &str) -> anyhow::Result<Vec<u32>> {
@@ -33,7 +33,7 @@ pub fn setup_of(numbers: [u32; 8]) -> Setup
         volume,
         days,
         standards: Pair { hcnox, co },
-        factors: Factors {
+        factors: Pair {
             hcnox: Factor {
                 kind: hcnox_kind,
                 value: hcnox_value,

@@ -1,6 +1,5 @@
 // How figures are printed: numbers with a space between them.
 use cumsum::Mark;
-use statistics::SampleSize;
 use std::fmt;
 use year::{Figures, Status};
 
@@ -19,11 +18,12 @@ impl fmt::Display for Shown<Mark> {
     }
 }
 
-impl fmt::Display for Shown<SampleSize> {
+// A sample size in tenths, if there is one.
+impl fmt::Display for Shown<Option<u64>> {
     fn fmt<W: fmt::Write>(&self, f: &mut fmt::Formatter<W>) -> fmt::Result {
         match self.0 {
-            SampleSize::Tenths(n) => write!(f, "{n}"),
-            SampleSize::Absent => f.write_str("-"),
+            Some(n) => write!(f, "{n}"),
+            None => f.write_str("-"),
         }
     }
 }

@@ -7,7 +7,6 @@ use admission::is_admissible;
 use engines::rework::rework;
 use engines::summary::figures_of;
 use progress::Progress;
-use progress::events::{after, start};
 use schedule::setup_in_range;
 use std::alloc::Global;
 use std::io::{self, Write};
@@ -20,18 +19,17 @@ use year::Event;
 pub fn first_year() -> Progress
     ensures { Consistent result }
 {
-    start(setup_of([1, 1, 10, 10, 0, 0, 0, 0]))
+    Progress::start(setup_of([1, 1, 10, 10, 0, 0, 0, 0]))
 }
 
-fn enter(year: Progress, event: Event) -> Progress
+fn enter(mut year: Progress, event: Event) -> Progress
     requires { Consistent year }
     ensures { Consistent result }
 {
     if is_admissible(&year, event) {
-        after(year, event)
-    } else {
-        year
+        year.enter(event);
     }
+    year
 }
 
 // Prints how many events were entered, the status at 1,024, and the figures of both pollutants recomputed at `resolution`, or at 8,192 if that is less.
@@ -68,7 +66,7 @@ pub fn obey<W: Write>(
         Line::Number(number) => write!(out, " {number}")?,
         Line::Begin(setup) => {
             if setup_in_range(setup) {
-                return Ok(start(setup));
+                return Ok(Progress::start(setup));
             }
             writeln!(out, "no year")?;
         }
