@@ -10,14 +10,14 @@ returns-in_err-event c =
 
 pub enter-requires : goal.enter-requires
 enter-requires c =
-    let entry = (engine_entry c.args.number c.args.hcnox.now c.args.co.now) in
+    let entry = engine_entry c.args.number c.args.hcnox.now c.args.co.now in
     let s = c.scan_journal-scanned in
     let d = c.in_ok-event in
     can-add entry c.args.journal.now s.result.progress (scanned_stands s.result _ s.ensures (finds-year entry c.args.journal.now _ d.ensures)) _ d.ensures
 
 pub returns : goal.returns
 returns c =
-    let entry = (engine_entry c.args.number c.args.hcnox.now c.args.co.now) in
+    let entry = engine_entry c.args.number c.args.hcnox.now c.args.co.now in
     let s = c.scan_journal-scanned in
     let d = c.in_ok-event in
     let year = scanned_stands s.result _ s.ensures (finds-year entry c.args.journal.now _ d.ensures) in
