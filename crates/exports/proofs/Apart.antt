@@ -7,15 +7,13 @@ use native.Mathlib.Omega.{arith}
 use lib.Dec.{eqb}
 use lib.ListN.{length}
 use borrow.Author.Tests.{le-ltb}
-use Rattle.conditions.specs.Rows.{Row, first}
 use Rattle.conditions.proofs.Tests.{by-test}
-use Rattle.year.specs.Model.{Model}
 use Rattle.journal.specs.Read.{read_journal}
 use Rattle.std.specs.Prelude.{Result, Ok, Err}
 use Rattle.year.specs.declared.Status.{Status}
 use Rattle.reference.specs.declared.Refusal.{Refusal}
 use Rattle.reference.specs.Call.{Form, Marks, Query, ReadStatus, Write, Call, SetUp, Enter, Ask}
-use Rattle.reference.specs.Refusals.{refusals, refusal}
+use Rattle.reference.specs.Refusals.{refusal}
 use Rattle.reference.specs.Answers.{refusal_on, answer, out_bytes, outcome}
 use Rattle.reference.proofs.Refused.{refusal-up-to}
 use Rattle.protocol.specs.KeyLine.{Command, Make, Refuse, command_of}

@@ -1,4 +1,4 @@
-use Rattle.std.proofs.Common.{arith, ◌∙◌, ap, ℕ, ◌*◌}
+use Rattle.std.proofs.Common.{arith}
 use Rattle.queries.proofs.Written.{marks-declined, marks-few, marks-room, marks-range, marks-done}
 use Rattle.queries.proofs.write_marks.Goals as goal
 

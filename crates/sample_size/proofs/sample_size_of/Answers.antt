@@ -1,4 +1,4 @@
-use Rattle.std.proofs.Common.{arith, ◌*◌}
+use Rattle.std.proofs.Common.{arith}
 use Rattle.sample_size.proofs.Sizes.{in-tenths}
 use Rattle.sample_size.proofs.sample_size_of.Goals as goal
 
