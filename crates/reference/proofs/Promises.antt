@@ -6,12 +6,11 @@ use native.Mathlib.Omega.{arith}
 use Rattle.std.specs.Prelude.{Result, Err, IsErrAnd}
 use Rattle.year.specs.declared.Status.{Status}
 use Rattle.reference.specs.declared.Refusal.{Refusal}
-use Rattle.journal.specs.Read.{read_journal}
 use Rattle.reference.specs.Call.{Call}
 use Rattle.reference.specs.Refused.{number_of}
-use Rattle.reference.specs.Answers.{refusal_on, journal_after, status_of, answer, outcome_of, outcome}
-use Rattle.reference.proofs.Refused.{above_0, err-gives, handed-on}
-use Rattle.reference.proofs.Given.{answer-outcome}
+use Rattle.reference.specs.Answers.{refusal_on, journal_after, answer, outcome_of, outcome}
+use Rattle.reference.proofs.Refused.{above_0, err_named, handed-on}
+use Rattle.reference.proofs.Given.{refused-answer, answer-outcome}
 use Rattle.reference.proofs.Demand1.{demand-1}
 
 -- the answer, its outcome, and the journal that is left
@@ -29,8 +28,7 @@ told call journal r e = ap outcome_of e ∙ answer-outcome call journal
 
 -- the answer of a refused call
 pub refused_answer : (call : Call) (journal : List ℕ) (r : Refusal) → number_of r ≡ refusal_on call journal → Err r ≡ answer call journal
-unfolding answer
-refused_answer call journal r e = err-gives (refusal_on call journal) (status_of (read_journal (journal_after call journal))) r e
+refused_answer call journal r e = ap Err (err_named r (refusal_on call journal) e) ∙ sym (refused-answer call journal (omega (arith, e, above_0 r)))
 
 -- a refused call, from what a `?` hands on
 pub refused : (call : Call) (journal : List ℕ) (r : Refusal) → number_of r ≡ refusal_on call journal
