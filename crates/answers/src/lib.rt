@@ -11,7 +11,7 @@ use cumsum::{Interval, Mark};
 use marking::marks::mark_byte;
 use reference::Answer;
 use statistics::Deviation;
-use year::{Figures, Status};
+use year::{Figures, Pair, Status};
 
 // The blank figures of one pollutant.
 const NO_FIGURES: Figures = Figures {
@@ -30,8 +30,10 @@ const NO_FIGURES: Figures = Figures {
 const NO_STATUS: Status = Status {
     n: 0,
     verdict: 0,
-    hcnox: NO_FIGURES,
-    co: NO_FIGURES,
+    figures: Pair {
+        hcnox: NO_FIGURES,
+        co: NO_FIGURES,
+    },
 };
 
 // A sample size in tenths, 0 for none.
@@ -66,8 +68,8 @@ fn status_numbers(s: Status) -> [u64; 20]
 {
     let mut numbers = [0; 20];
     numbers[..2].copy_from_slice(&[s.n as u64, s.verdict as u64]);
-    numbers[2..11].copy_from_slice(&pollutant_numbers(s.hcnox));
-    numbers[11..].copy_from_slice(&pollutant_numbers(s.co));
+    numbers[2..11].copy_from_slice(&pollutant_numbers(s.figures.hcnox));
+    numbers[11..].copy_from_slice(&pollutant_numbers(s.figures.co));
     numbers
 }
 
@@ -93,7 +95,7 @@ pub fn put_answer(numbers: &mut [u64], answer: Answer) -> u8
         }
         Err(refusal) => {
             put_status(numbers, NO_STATUS);
-            refusal.number()
+            u8::from(refusal)
         }
     }
 }

@@ -36,7 +36,7 @@ pub fn write_answer<W: Write>(out: &mut W, answer: Answer) -> io::Result<()> {
         Err(refusal) => write!(
             out,
             "{} 0 0 0 0 0 0 0 0 0 - - 0 0 0 0 0 0 0 - -",
-            refusal.number()
+            u8::from(refusal)
         ),
     }
 }

@@ -3,8 +3,8 @@ use crate::calls::Call;
 use anyhow::{Context, bail};
 use reference::Change;
 use std::alloc::Global;
-use test_lines::numbers::{numbers, setup_of};
-use year::Pair;
+use test_lines::numbers::numbers;
+use year::{Pair, Setup};
 
 #[derive(Drop)]
 pub enum Line {
@@ -28,7 +28,7 @@ impl Line {
             ("N", []) => Line::Clear,
             ("W", &[place, byte]) => Line::Write(place as usize, u8::try_from(byte)?),
             ("L", &[size]) => Line::Strip(size as usize),
-            ("S", setup) => Line::Call(Call::SetUp(setup_of(setup.try_into()?))),
+            ("S", setup) => Line::Call(Call::SetUp(Setup::from(<[u32; 8]>::try_from(setup)?))),
             ("E", &[number, count, _, ref readings @ ..]) => {
                 let (hcnox, co) = readings
                     .split_at_checked(count as usize)

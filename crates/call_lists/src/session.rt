@@ -88,7 +88,7 @@ impl Session {
         let mut strip = [b'.'; 100];
         let (refusal, written) = match write_marks(journal, &mut strip[..size]) {
             Ok(count) => (0, count),
-            Err(refusal) => (refusal.number(), 0),
+            Err(refusal) => (u8::from(refusal), 0),
         };
         write!(out, "{refusal} {written} |")?;
         out.write_all(&strip)?;

@@ -24,7 +24,7 @@ fn reply_short(journal: &mut [u8], line: &[u8]) -> Reply
 {
     match &read_numbers(line) {
         Ok(numbers) => carry_out(journal, requested(line[0], numbers.as_slice())),
-        Err(refusal) => refusal_reply(refusal.number()),
+        Err(refusal) => refusal_reply(u8::from(refusal)),
     }
 }
 
@@ -37,8 +37,8 @@ pub fn reply(journal: &mut [u8], line: &[u8]) -> Reply
     ensures within { length result < 96 }
 {
     match line.len() {
-        0 => refusal_reply(Refusal::LineForm.number()),
+        0 => refusal_reply(u8::from(Refusal::LineForm)),
         1..=LINE_SIZE => reply_short(journal, line),
-        _ => refusal_reply(Refusal::LineTooLong.number()),
+        _ => refusal_reply(u8::from(Refusal::LineTooLong)),
     }
 }

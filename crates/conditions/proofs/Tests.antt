@@ -38,20 +38,5 @@ pub not-false : (a : Bool) → not a ≡ false → a ≡ true
 not-false true h = refl
 not-false false h = absurd (true≢false h)
 
--- a < b is the negation of b ≤ a
-pub ltb-not-leb : (a b : ℕ) → ltb a b ≡ not (leb b a)
-ltb-not-leb a b = by (dec_lt a b)
-  where
-    by : Dec (a < b) → ltb a b ≡ not (leb b a)
-    by (yes l) = rw (lt-ltb a b l, lt-leb b a l)
-    by (no f) = rw (le-ltb a b (omega arith), le-leb b a (omega arith))
-
 pub eqb_refl : (a : ℕ) → eqb a a ≡ true
 eqb_refl a = eq-eqb a a refl
-
-pub eqb-sym : (a b : ℕ) → eqb a b ≡ eqb b a
-eqb-sym a b = by (eqb a b) refl
-  where
-    by : (t : Bool) → eqb a b ≡ t → t ≡ eqb b a
-    by true h = sym (eq-eqb b a (sym (eqb-true a b h)))
-    by false h = sym (ne_eqb b a (λ e. eqb-false a b h (sym e)))

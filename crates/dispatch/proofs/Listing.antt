@@ -8,7 +8,8 @@ use Rattle.buffers.specs.Bytes.{put}
 use Rattle.buffers.proofs.Lists.{take_put}
 use Rattle.journal.specs.Read.{read_journal}
 use Rattle.reference.specs.Call.{Marks, Write, Ask}
-use Rattle.reference.specs.Answers.{refusal_on, out_bytes, out_after, out_part, OutputOutcome, output_outcome}
+use Rattle.reference.specs.Answers.{refusal_on, out_bytes, out_after, out_part, output_outcome}
+use Rattle.reference.specs.declared.OutputOutcome.{OutputOutcome}
 use Rattle.reference.proofs.Given.{accepted-gives, refused-gives}
 use Rattle.reference.proofs.Demand1.{out-fits}
 use Rattle.protocol.specs.Reply.{refusal_reply, marks_reply, query_reply}

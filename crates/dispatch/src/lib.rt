@@ -13,19 +13,17 @@ use queries::write_marks;
 use reference::Refusal;
 use replies::{answer_reply, marks_reply, refusal_reply};
 use text::Reply;
-
-// The most marks: two for each of forty engines.
-const MARKS_SIZE: usize = 80;
+use year::MOST_MARKS;
 
 // "OK" and the marks, or the call's refusal.
 fn list_marks(journal: &[u8]) -> Reply
     ensures reply { result ≡ query_reply (Write Marks 80) journal.now }
     ensures fits { length result < 96 }
 {
-    let mut marks = [0u8; MARKS_SIZE];
+    let mut marks = [0u8; MOST_MARKS];
     match write_marks(journal, &mut marks) {
         Ok(count) => marks_reply(&marks[..count]),
-        Err(refusal) => refusal_reply(refusal.number()),
+        Err(refusal) => refusal_reply(u8::from(refusal)),
     }
 }
 
@@ -53,6 +51,6 @@ pub fn carry_out(journal: &mut [u8], request: Result<CallRequest<'_>, Refusal>) 
 {
     match request {
         Ok(call) => make(journal, call),
-        Err(refusal) => refusal_reply(refusal.number()),
+        Err(refusal) => refusal_reply(u8::from(refusal)),
     }
 }

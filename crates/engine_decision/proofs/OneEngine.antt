@@ -34,15 +34,6 @@ module _ (number : ℕ) (readings : Readings) (p : Progress) where
   asked-numbered : Numbered (asked_rows number readings p)
   asked-numbered = omega arith
 
-  -- if none of these rows applies, the counts of its readings fit
-  pub asked-counts : 0 ≡ first (asked_rows number readings p) 0
-      → (length readings.hcnox ≡ length readings.co) × (1 ≤ length readings.hcnox) × (length readings.hcnox ≤ 3)
-  asked-counts h =
-      let fit = not-false (counts_fit readings) (none-applies (asked_rows number readings p) 11 (first-none (asked_rows number readings p) asked-numbered (sym h))) in
-      let parts = (and-eq-true_iff (eqb (length readings.hcnox) (length readings.co)) (count_in_range (length readings.hcnox))).0 fit in
-      let range = (and-eq-true_iff (leb 1 (length readings.hcnox)) (leb (length readings.hcnox) 3)).0 parts.1 in
-      (eqb-true (length readings.hcnox) (length readings.co) parts.0, leb-true 1 (length readings.hcnox) range.0, leb-true (length readings.hcnox) 3 range.1)
-
   -- a row tested before the results are computed decides if one applies
   pub asked_refused : (r : Refusal) → number_of r ≡ first (asked_rows number readings p) 0 → Err r ≡ engine_decision number readings p
   asked_refused r e =

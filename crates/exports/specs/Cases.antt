@@ -20,22 +20,25 @@ second =
     record {
       n = 2;
       verdict = 1;
-      hcnox = record {
-        sum = 2069;
-        deviation = record { floor = 52857; inexact = 1 };
-        cumsum = record { low = 1057158; high = 1057159 };
-        limit = record { low = 1057140; high = 1057160 };
-        size = Some 30;
-        mark = Undecided;
-      };
-      co = record {
-        sum = 10000;
-        deviation = record { floor = 0; inexact = 0 };
-        cumsum = record { low = 0; high = 0 };
-        limit = record { low = 0; high = 0 };
-        size = Some 10;
-        mark = Under;
-      };
+      figures =
+          record {
+            hcnox = record {
+              sum = 2069;
+              deviation = record { floor = 52857; inexact = 1 };
+              cumsum = record { low = 1057158; high = 1057159 };
+              limit = record { low = 1057140; high = 1057160 };
+              size = Some 30;
+              mark = Undecided;
+            };
+            co = record {
+              sum = 10000;
+              deviation = record { floor = 0; inexact = 0 };
+              cumsum = record { low = 0; high = 0 };
+              limit = record { low = 0; high = 0 };
+              size = Some 10;
+              mark = Under;
+            };
+          };
     }
 
 pub record Cases : Type 0 where

@@ -20,7 +20,7 @@ pollutant_numbers f =
 
 -- the twenty numbers of a status: n and the verdict, HC+NOx, CO
 unfoldable pub status_numbers : Status → List ℕ
-status_numbers s = (s.n ∷ s.verdict ∷ []) ++ pollutant_numbers s.hcnox ++ pollutant_numbers s.co
+status_numbers s = (s.n ∷ s.verdict ∷ []) ++ pollutant_numbers s.figures.hcnox ++ pollutant_numbers s.figures.co
 
 -- 0 means that there is no N, and nothing else
 abbrev pub NoneApart : Type 0

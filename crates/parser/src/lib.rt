@@ -6,7 +6,6 @@ ghost use Rattle.protocol.specs.KeyLine.{asked, setup_from, call_of};
 ghost use Rattle.parser.specs.Request.{command_for};
 
 use reference::{Change, Refusal};
-use rounding::Factor;
 use year::{Pair, Setup};
 
 // The call that a line asks for.
@@ -26,34 +25,10 @@ pub enum CallRequest<'a> {
 fn setup_from(values: &[u32]) -> Result<Setup, Refusal>
     ensures { result ≡ cond (eqb (length values.now) 8) (Ok (setup_from values.now)) (Err Refusal.LineForm) }
 {
-    let &[
-        volume,
-        days,
-        hcnox,
-        co,
-        hcnox_kind,
-        hcnox_value,
-        co_kind,
-        co_value,
-    ] = values
-    else {
-        return Err(Refusal::LineForm);
-    };
-    Ok(Setup {
-        volume,
-        days,
-        standards: Pair { hcnox, co },
-        factors: Pair {
-            hcnox: Factor {
-                kind: hcnox_kind,
-                value: hcnox_value,
-            },
-            co: Factor {
-                kind: co_kind,
-                value: co_value,
-            },
-        },
-    })
+    match <[u32; 8]>::try_from(values) {
+        Ok(numbers) => Ok(Setup::from(numbers)),
+        Err(_) => Err(Refusal::LineForm),
+    }
 }
 
 // What a letter and its numbers ask for. "An odd count of readings is refused by 2"; the call judges how many there are.

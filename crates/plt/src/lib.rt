@@ -80,7 +80,7 @@ pub extern "C" fn plt_marks(journal: &[u8], out: &mut [u8], written: &mut usize)
         }
         Err(refusal) => {
             *written = 0;
-            refusal.number()
+            u8::from(refusal)
         }
     }
 }

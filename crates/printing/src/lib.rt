@@ -16,10 +16,7 @@ use buffers::front::put_front;
 use engines::Engines;
 use figures::Running;
 use marking::marks::mark_byte;
-use year::Tested;
-
-// Two for each of forty engines.
-const MOST_MARKS: usize = 80;
+use year::{MOST_MARKS, Tested};
 
 // The marks of engines in order of entry, HC+NOx then CO, at any resolution.
 fn marks_of(engines: &[Tested], resolution: u64) -> ArrayVec<u8, MOST_MARKS>

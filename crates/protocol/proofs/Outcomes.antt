@@ -30,8 +30,3 @@ module _ (line : List ℕ) where
           ≡ cond space (number_outcome line (position + 1)) (record { refusal = 2; value = 0; next = 0 })
       by true = number-outcome (position + 1)
       by false = refl
-
-  -- what a function promises about such an answer, from its first equation
-  pub spaced-promised : (position : ℕ) (n : Option Number) → n ≡ spaced_number line position
-      → (n ≡ spaced_number line position) × (number_outcome_of n ≡ spaced_outcome line position)
-  spaced-promised position n e = (e, ap number_outcome_of e ∙ spaced-outcome position)

@@ -107,7 +107,7 @@ stored-declared = stored declared refl refl refl valid-declared
 
 -- the reply that shows n, a verdict, marks and sample sizes
 abbrev shown : ℕ → ℕ → Mark → Mark → Option ℕ → Option ℕ → List ℕ
-shown n v a b size_a size_b = status_reply (record { n = n; verdict = v; hcnox = marked a size_a; co = marked b size_b })
+shown n v a b size_a size_b = status_reply (record { n = n; verdict = v; figures = record { hcnox = marked a size_a; co = marked b size_b } })
 
 -- what each line does
 record Lines : Type 0 where

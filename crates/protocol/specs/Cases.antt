@@ -97,7 +97,7 @@ pub record Cases : Type 0 where
   pub four_digits : decimal 1234 ≡ text "1234"
   pub refused_by_16 : refusal_reply 16 ≡ text "NO 16"
   pub no_marks : marks_reply [] ≡ text "OK"
-  pub two_tested : status_reply (record { n = 2; verdict = 1; hcnox = marked Undecided (Some 30); co = marked Under None }) ≡ text "OK 2 1 ?U 30 -"
+  pub two_tested : status_reply (record { n = 2; verdict = 1; figures = record { hcnox = marked Undecided (Some 30); co = marked Under None } }) ≡ text "OK 2 1 ?U 30 -"
   -- a line that is too long "is dropped up to its newline": 70 bytes, and then a declaration, on a journal that is all zero
   pub long_line : run (replicate 70 (byte "X") ++ text "\nX\n") ≡ text "NO 1\nNO 7\n"
   -- document 01, "Input and print of a whole run"

@@ -35,8 +35,8 @@ size_text None = text "-"
 -- ""OK", n, verdict, the two last marks joined, N in tenths for each pollutant .., with single spaces"
 abbrev pub status_reply : Status → List ℕ
 status_reply s =
-    text "OK" ++ spaced (decimal s.n) ++ spaced (decimal s.verdict) ++ spaced (mark_byte s.hcnox.mark ∷ mark_byte s.co.mark ∷ [])
-    ++ spaced (size_text s.hcnox.size) ++ spaced (size_text s.co.size)
+    text "OK" ++ spaced (decimal s.n) ++ spaced (decimal s.verdict) ++ spaced (mark_byte s.figures.hcnox.mark ∷ mark_byte s.figures.co.mark ∷ [])
+    ++ spaced (size_text s.figures.hcnox.size) ++ spaced (size_text s.figures.co.size)
 
 abbrev pub answer_reply : Result Status Refusal → List ℕ
 answer_reply (Ok s) = status_reply s

@@ -50,7 +50,7 @@ fn write_front(journal: &[u8], out: &mut [u8], refusal: &mut u8) -> usize
             count
         }
         Err(met) => {
-            *refusal = met.number();
+            *refusal = u8::from(met);
             0
         }
     }

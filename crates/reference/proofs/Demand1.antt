@@ -32,7 +32,8 @@ use Rattle.journal.proofs.OneJournal.{demand}
 use Rattle.reference.specs.declared.Change.TheVariants.{Amend, BeginPeriod, Declare, Delete}
 use Rattle.reference.specs.Call.{Entry, EnterEngine, EnterChange, Form, Marks, Write, Call, SetUp, Enter, Ask, event_of, of_change, of_deletion}
 use Rattle.reference.specs.Refusals.{refusals, refusal}
-use Rattle.reference.specs.Answers.{refusals_on, refusal_on, with_entry, written, journal_after, no_status, status_of, answer, Outcome, outcome_of, outcome, out_bytes, out_after, out_part, OutputOutcome, output_answer, output_outcome_of, output_outcome}
+use Rattle.reference.specs.declared.OutputOutcome.{OutputOutcome}
+use Rattle.reference.specs.Answers.{refusals_on, refusal_on, with_entry, written, journal_after, no_status, status_of, answer, Outcome, outcome_of, outcome, out_bytes, out_after, out_part, output_answer, output_outcome_of, output_outcome}
 use Rattle.reference.specs.Demand1.{Demand1}
 use Rattle.reference.proofs.Given.{accepted-gives, refused-gives, refused-answer, answer-outcome, held-year, accepted-size, accepted-year, accepted-refusal, entry-admissible, entry-room}
 use Rattle.reference.proofs.Refused.{named-refusal}

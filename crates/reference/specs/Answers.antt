@@ -10,6 +10,7 @@ use Rattle.year.specs.Model.{Model, NoSetup, Year}
 use Rattle.journal.specs.Encode.{setup_version, encode, append}
 use Rattle.journal.specs.Read.{read_journal}
 use Rattle.reference.specs.declared.Refusal.{Refusal}
+use Rattle.reference.specs.declared.OutputOutcome.{OutputOutcome}
 use Rattle.reference.specs.Call.{Entry, Form, Marks, Write, Call, SetUp, Enter, Ask, event_of}
 use Rattle.reference.specs.Refusals.{refusals, refusal}
 use Rattle.reference.specs.Refused.{number_of, named}
@@ -43,7 +44,7 @@ journal_after call journal = if_accepted call journal (written call journal) jou
 
 -- "every other figure of the answer zero, marks '-', N absent"
 abbrev pub no_status : Status
-no_status = record { n = 0; verdict = 0; hcnox = blank 0; co = blank 0 }
+no_status = record { n = 0; verdict = 0; figures = record { hcnox = blank 0; co = blank 0 } }
 
 -- the status of a year, at the calculator's resolution of 1,024
 abbrev pub status_of : Model → Status
@@ -93,10 +94,6 @@ output_answer form journal out =
     (Err (named (refusal_on (Ask (Write form (length out))) journal)))
 
 -- document 01's refusal number, 0 for none, and how many bytes were written, 0 if it is refused, for each case of this
-pub record OutputOutcome : Type 0 where
-  pub refusal : ℕ
-  pub length : ℕ
-
 abbrev pub output_outcome_of : Result ℕ Refusal → OutputOutcome
 output_outcome_of (Ok count) = record { refusal = 0; length = count }
 output_outcome_of (Err refusal) = record { refusal = number_of refusal; length = 0 }

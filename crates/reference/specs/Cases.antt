@@ -113,9 +113,9 @@ pub record Cases : Type 0 where
   pub setup_answer : answer new_year (zeros 544) ≡ Ok no_status
   pub entry_writes : journal_after engine_one (encode 1 (setup_of 5000 800) []) ≡ encode 1 (setup_of 5000 800) (engine 1 998 ∷ [])
   -- an entry answers with the status of the journal that it leaves: one engine, short, S 998 and 5,000
-  pub entry_answer : answer engine_one (encode 1 (setup_of 5000 800) []) ≡ Ok (record { n = 1; verdict = 0; hcnox = only_sum 998; co = only_sum 5000 })
+  pub entry_answer : answer engine_one (encode 1 (setup_of 5000 800) []) ≡ Ok (record { n = 1; verdict = 0; figures = record { hcnox = only_sum 998; co = only_sum 5000 } })
   -- at the calculator's resolution of 1,024: s 52,857 for X 998 then 1,071; and T 10, X 2,367 then 3,236 has '?', where 1,023 and 1,025 would have 'O'
-  pub status_at_1024 : (status_of (year_of (engine 2 1071 ∷ engine 1 998 ∷ []))).hcnox.deviation ≡ exactly 52857 1
+  pub status_at_1024 : (status_of (year_of (engine 2 1071 ∷ engine 1 998 ∷ []))).figures.hcnox.deviation ≡ exactly 52857 1
   pub marks_at_1024 : out_bytes Marks (Year (setup_of 5000 10) (engine 2 3236 ∷ engine 1 2367 ∷ [])) ≡ text "--?U"
   -- marks at the front of the output, the rest of it unchanged; if refused, all of it unchanged
   pub marks_written : out_after Marks (encode 1 (setup_of 5000 800) (engine 1 998 ∷ [])) (1 ∷ 2 ∷ 3 ∷ []) ≡ 45 ∷ 45 ∷ 3 ∷ []

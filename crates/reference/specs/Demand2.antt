@@ -24,8 +24,8 @@ use Rattle.reference.specs.Refusals.{counts_fit, readings_fit}
 use Rattle.reference.specs.Answers.{refusal_on, journal_after, answer, outcome_of, out_after, out_part}
 
 abbrev pub figures_of : Pollutant → Status → Figures
-figures_of Hcnox status = status.hcnox
-figures_of Co status = status.co
+figures_of Hcnox status = status.figures.hcnox
+figures_of Co status = status.figures.co
 
 -- a status shows the figures of a year as they are defined, at the calculator's resolution
 pub record Shows (status : Status) (p : Progress) : Type 0 where

@@ -4,6 +4,7 @@
 ghost use Rattle.std.specs.Prelude.{◌≡◌};
 ghost use Rattle.reference.specs.Call.{change_event};
 ghost use Rattle.reference.specs.Refused.{number_of};
+ghost use Rattle.reference.specs.Answers.{output_outcome_of};
 
 use year::{Event, Pair, Status};
 
@@ -29,12 +30,12 @@ pub enum Refusal {
     NothingToDelete,
 }
 
-impl Refusal {
-    // The number by which documents 01 and 02 know it.
-    pub fn number(self) -> u8
-        ensures { result ≡ number_of self }
-    {
-        self as u8
+// The number by which documents 01 and 02 know it.
+impl From<Refusal> for u8 {
+    ghost from_gives = { λ refusal number. number ≡ number_of refusal };
+
+    fn from(refusal: Refusal) -> u8 {
+        refusal as u8
     }
 }
 
@@ -66,3 +67,24 @@ impl From<Change> for Event {
 
 // What a call that writes an output returns besides the bytes: how many it wrote, or its refusal.
 pub type OutputAnswer = Result<usize, Refusal>;
+
+// The same in document 01's words: the refusal's number, 0 for none, and how many bytes were written, 0 if the call is refused.
+#[derive(Clone, Copy)]
+pub struct OutputOutcome {
+    pub refusal: u8,
+    pub length: usize,
+}
+
+impl From<OutputAnswer> for OutputOutcome {
+    ghost from_gives = { λ answer given. given ≡ output_outcome_of answer };
+
+    fn from(answer: OutputAnswer) -> OutputOutcome {
+        match answer {
+            Ok(length) => OutputOutcome { refusal: 0, length },
+            Err(refusal) => OutputOutcome {
+                refusal: u8::from(refusal),
+                length: 0,
+            },
+        }
+    }
+}

@@ -28,9 +28,9 @@ pub fn status_reply(s: Status) -> Reply
     reply.text(b"OK");
     reply.number(s.n as u64);
     reply.number(u64::from(s.verdict));
-    reply.marks(s.hcnox.mark, s.co.mark);
-    reply.size(s.hcnox.size);
-    reply.size(s.co.size);
+    reply.marks(s.figures.hcnox.mark, s.figures.co.mark);
+    reply.size(s.figures.hcnox.size);
+    reply.size(s.figures.co.size);
     reply
 }
 
@@ -41,7 +41,7 @@ pub fn answer_reply(answer: Answer) -> Reply
 {
     match answer {
         Ok(s) => status_reply(s),
-        Err(refusal) => refusal_reply(refusal.number()),
+        Err(refusal) => refusal_reply(u8::from(refusal)),
     }
 }
 

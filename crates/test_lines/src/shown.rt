@@ -1,7 +1,7 @@
 // How figures are printed: numbers with a space between them.
 use cumsum::Mark;
 use std::fmt;
-use year::{Figures, Status};
+use year::{Figures, Pair, Status};
 
 // A value as the test programs print it.
 #[derive(Clone, Copy)]
@@ -52,8 +52,7 @@ impl fmt::Display for Shown<Status> {
         let Status {
             n,
             verdict,
-            hcnox,
-            co,
+            figures: Pair { hcnox, co },
         } = self.0;
         write!(f, "{n} {verdict} {} {}", Shown(hcnox), Shown(co))
     }

@@ -15,10 +15,11 @@ pub enum Verdict {
     Declared,
 }
 
-impl Verdict {
-    pub fn number(self) -> u8
-        ensures { result ≡ number_of self }
-    {
-        self as u8
+// Its number.
+impl From<Verdict> for u8 {
+    ghost from_gives = { λ verdict number. number ≡ number_of verdict };
+
+    fn from(verdict: Verdict) -> u8 {
+        verdict as u8
     }
 }

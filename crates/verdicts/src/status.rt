@@ -6,7 +6,7 @@ ghost use Rattle.progress.specs.State.{progress_of, Consistent};
 use crate::verdict::verdict;
 use engines::summary::figures_of;
 use progress::Progress;
-use year::Status;
+use year::{Pair, Status};
 
 // The calculator's status, at resolution 1,024.
 pub fn status_of(p: &Progress) -> Status
@@ -15,8 +15,10 @@ pub fn status_of(p: &Progress) -> Status
 {
     Status {
         n: p.engines.len() as u32,
-        verdict: verdict(p).number(),
-        hcnox: figures_of(p.figures.hcnox),
-        co: figures_of(p.figures.co),
+        verdict: u8::from(verdict(p)),
+        figures: Pair {
+            hcnox: figures_of(p.figures.hcnox),
+            co: figures_of(p.figures.co),
+        },
     }
 }

@@ -4,7 +4,7 @@ use results::result_of;
 use rounding::Factor;
 use schedule::{needs, one_percent, periods};
 use std::alloc::Global;
-use test_lines::numbers::{numbers, setup_of};
+use test_lines::numbers::numbers;
 use year::{Event, Pair, Setup};
 
 #[derive(Clone, Copy)]
@@ -33,7 +33,7 @@ impl Line {
             ("d", &[volume, days]) => Line::Number(u64::from(periods(volume, days))),
             ("n", &[period]) => Line::Number(u64::from(needs(period))),
             ("c", &[volume]) => Line::Number(one_percent(volume)),
-            ("S", setup) => Line::Begin(setup_of(setup.try_into()?)),
+            ("S", setup) => Line::Begin(Setup::from(<[u32; 8]>::try_from(setup)?)),
             ("E", &[number, readings, hcnox, co]) => Line::Enter(Event::Engine {
                 number,
                 readings,

@@ -10,16 +10,15 @@ use progress::Progress;
 use schedule::setup_in_range;
 use std::alloc::Global;
 use std::io::{self, Write};
-use test_lines::numbers::setup_of;
 use test_lines::shown::Shown;
 use verdicts::status::status_of;
-use year::Event;
+use year::{Event, Setup};
 
 // The year before the first setup of the input.
 pub fn first_year() -> Progress
     ensures { Consistent result }
 {
-    Progress::start(setup_of([1, 1, 10, 10, 0, 0, 0, 0]))
+    Progress::start(Setup::from([1, 1, 10, 10, 0, 0, 0, 0]))
 }
 
 fn enter(mut year: Progress, event: Event) -> Progress

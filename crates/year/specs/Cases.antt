@@ -90,17 +90,17 @@ pub record Cases : Type 0 where
   pub verdict_of_new_period : verdict 1024 (replay (setup_of 5000 1000) (NextPeriod ∷ engine 2 1000 ∷ engine 1 1000 ∷ [])) ≡ 0
   -- an amendment to 10 does not affect two engines entered under 1,000: verdict 2 stays, and N stays 1
   pub verdict_amended : verdict 1024 (replay (setup_of 1500 1000) (Amendment (pair 10 10) ∷ engine 2 800 ∷ engine 1 800 ∷ [])) ≡ 2
-  pub size_amended : (status 1024 (replay (setup_of 1500 1000) (Amendment (pair 10 10) ∷ engine 2 800 ∷ engine 1 800 ∷ []))).hcnox.size ≡ Some 10
+  pub size_amended : (status 1024 (replay (setup_of 1500 1000) (Amendment (pair 10 10) ∷ engine 2 800 ∷ engine 1 800 ∷ []))).figures.hcnox.size ≡ Some 10
   -- and it sets T for the engine after it
   pub tests_amended : history Hcnox (replay (setup_of 5000 800) (engine 2 900 ∷ Amendment (pair 700 6100) ∷ engine 1 998 ∷ [])).tested
       ≡ record { result = 900; standard = 700 } ∷ record { result = 998; standard = 800 } ∷ []
   pub co_tests_amended : history Co (replay (setup_of 5000 800) (engine 2 900 ∷ Amendment (pair 700 6000) ∷ engine 1 998 ∷ [])).tested
       ≡ record { result = 5000; standard = 6000 } ∷ record { result = 5000; standard = 6100 } ∷ []
   -- each pollutant has its own N: with X 1,000 twice there is none for HC+NOx, and 1 for CO
-  pub size_of_co : (status 1024 (twice 1000)).co.size ≡ Some 10
+  pub size_of_co : (status 1024 (twice 1000)).figures.co.size ≡ Some 10
   -- "Before engine 2 the figures other than n, S and verdict are zero and N is absent; with no engine the mark is '-'": with one engine, and with none
-  pub status_of_one : status 1024 (replay (setup_of 5000 800) (engine 1 998 ∷ [])) ≡ record { n = 1; verdict = 0; hcnox = only_sum 998; co = only_sum 5000 }
-  pub status_of_none : status 1024 (replay (setup_of 5000 800) []) ≡ record { n = 0; verdict = 0; hcnox = only_sum 0; co = only_sum 0 }
+  pub status_of_one : status 1024 (replay (setup_of 5000 800) (engine 1 998 ∷ [])) ≡ record { n = 1; verdict = 0; figures = record { hcnox = only_sum 998; co = only_sum 5000 } }
+  pub status_of_none : status 1024 (replay (setup_of 5000 800) []) ≡ record { n = 0; verdict = 0; figures = record { hcnox = only_sum 0; co = only_sum 0 } }
   -- n counts engines, not events
   pub n_amended : (status 1024 (replay (setup_of 5000 800) (Amendment (pair 700 6100) ∷ engine 1 998 ∷ []))).n ≡ 1
   -- "The verdict is 6 or 7" is tested at 1,024. T 10, X 2,367, 3,236, 1,499: marks '-', '?', 'O' there, so the year is open; at 1,023 and at 1,025 they would

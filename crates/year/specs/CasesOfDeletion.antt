@@ -14,7 +14,7 @@ pub record CasesOfDeletion : Type 0 where
   pub at_once : replay (setup_of 5000 800) (Deletion ∷ engine 1 998 ∷ []) ≡ storing 2 (start (setup_of 5000 800))
   -- it is the newest engine that goes: engine 1 stays, and its figures with it
   pub newest_goes : status 1024 (replay (setup_of 5000 800) (Deletion ∷ engine 2 1071 ∷ engine 1 998 ∷ []))
-      ≡ record { n = 1; verdict = 0; hcnox = only_sum 998; co = only_sum 5000 }
+      ≡ record { n = 1; verdict = 0; figures = record { hcnox = only_sum 998; co = only_sum 5000 } }
   -- twice
   pub twice : replay (setup_of 5000 800) (Deletion ∷ Deletion ∷ engine 2 1071 ∷ engine 1 998 ∷ []) ≡ storing 4 (start (setup_of 5000 800))
   -- "amendments since are kept": the next engine is under the amended standard
@@ -22,7 +22,7 @@ pub record CasesOfDeletion : Type 0 where
       ≡ record { result = 900; standard = 700 } ∷ []
   pub remaining_events : remaining (engine 1 900 ∷ Deletion ∷ Amendment (pair 700 6100) ∷ engine 1 998 ∷ []) ≡ engine 1 900 ∷ Amendment (pair 700 6100) ∷ []
   -- the last engine entered, and its strike, leave no trace: T in N is 1,000 again, under which engine 2 was entered, and not 10; N is 1, verdict 2
-  pub size_of_remaining : (status 1024 (replay (setup_of 1500 1000) (Deletion ∷ engine 3 800 ∷ Amendment (pair 10 10) ∷ engine 2 800 ∷ engine 1 800 ∷ []))).hcnox.size
+  pub size_of_remaining : (status 1024 (replay (setup_of 1500 1000) (Deletion ∷ engine 3 800 ∷ Amendment (pair 10 10) ∷ engine 2 800 ∷ engine 1 800 ∷ []))).figures.hcnox.size
       ≡ Some 10
   pub verdict_of_remaining : verdict 1024 (replay (setup_of 1500 1000) (Deletion ∷ engine 3 800 ∷ Amendment (pair 10 10) ∷ engine 2 800 ∷ engine 1 800 ∷ [])) ≡ 2
   -- a strike can make the period short again

@@ -1,5 +1,5 @@
 -- Document 01, "The year that a book holds": one family, one model year, two pollutants; and the ranges of a setup.
-use Rattle.std.specs.Prelude.{Bool, true, false, ◌&&◌, ◌||◌, List, [], ◌∷◌, ℕ, ◌%◌, eqb}
+use Rattle.std.specs.Prelude.{Bool, true, false, ◌&&◌, ◌||◌, List, [], ◌∷◌, ℕ, ◌%◌, eqb, get_or}
 use Rattle.conditions.specs.Ranges.{within}
 use Rattle.rounding.specs.declared.Factor.{Factor}
 use Rattle.rounding.specs.Result.{factor_in_range}
@@ -19,6 +19,20 @@ module _ {A : Type 0} where
 
 abbrev pub factor_of : Pollutant → Setup → Factor
 factor_of q setup = of q setup.factors
+
+-- the setup of eight numbers: P, D, the two standards, and the kind and value of each factor
+abbrev pub setup_of : List ℕ → Setup
+setup_of numbers =
+    record {
+      volume = get_or numbers 0 0;
+      days = get_or numbers 1 0;
+      standards = record { hcnox = get_or numbers 2 0; co = get_or numbers 3 0 };
+      factors =
+          record {
+            hcnox = record { kind = get_or numbers 4 0; value = get_or numbers 5 0 };
+            co = record { kind = get_or numbers 6 0; value = get_or numbers 7 0 };
+          };
+    }
 
 -- both pollutants pass a test
 abbrev pub both : (Pollutant → Bool) → Bool

@@ -27,19 +27,19 @@ pub record StarredCases : Type 0 where
   pub periods_of_1600_and_300 : periods 1600 300 ≡ 3
   pub periods_of_1600_and_301 : periods 1600 301 ≡ 4
   -- * T 800, X 998 then 1,071: s 52,857, e 1, C 1,057,158 to 1,057,159, H 1,057,140 to 1,057,160, mark '?'. * At m = 8 it is 'O'
-  pub deviation_of_two : (status 1024 two).hcnox.deviation ≡ exactly 52857 1
-  pub cumsum_of_two : (status 1024 two).hcnox.cumsum ≡ interval 1057158 1057159
-  pub limit_of_two : (status 1024 two).hcnox.limit ≡ interval 1057140 1057160
-  pub mark_of_two : (status 1024 two).hcnox.mark ≡ Undecided
-  pub mark_of_two_at_8 : (status (1024 * 8) two).hcnox.mark ≡ Over
+  pub deviation_of_two : (status 1024 two).figures.hcnox.deviation ≡ exactly 52857 1
+  pub cumsum_of_two : (status 1024 two).figures.hcnox.cumsum ≡ interval 1057158 1057159
+  pub limit_of_two : (status 1024 two).figures.hcnox.limit ≡ interval 1057140 1057160
+  pub mark_of_two : (status 1024 two).figures.hcnox.mark ≡ Undecided
+  pub mark_of_two_at_8 : (status (1024 * 8) two).figures.hcnox.mark ≡ Over
   -- * T 100, X 500 three times: "-OO", failed
   pub marks_of_three : reverse (marks 1024 (history Hcnox (replay (setup_of 5000 100) three).tested)) ≡ Unmarked ∷ Over ∷ Over ∷ []
   pub three_failed : verdict 1024 (replay (setup_of 5000 100) three) ≡ 6
   -- * T 1,000, X 800 twice, CO 5,000 twice under 6,100, P 1,500: N is 1, verdict 2
-  pub size_of_800 : (status 1024 (twice 800)).hcnox.size ≡ Some 10
-  pub size_of_800_co : (status 1024 (twice 800)).co.size ≡ Some 10
+  pub size_of_800 : (status 1024 (twice 800)).figures.hcnox.size ≡ Some 10
+  pub size_of_800_co : (status 1024 (twice 800)).figures.co.size ≡ Some 10
   pub verdict_of_800 : verdict 1024 (twice 800) ≡ 2
   -- * With X 1,000 twice: no N, 'U', verdict 1
-  pub size_of_1000 : (status 1024 (twice 1000)).hcnox.size ≡ None
-  pub mark_of_1000 : (status 1024 (twice 1000)).hcnox.mark ≡ Under
+  pub size_of_1000 : (status 1024 (twice 1000)).figures.hcnox.size ≡ None
+  pub mark_of_1000 : (status 1024 (twice 1000)).figures.hcnox.mark ≡ Under
   pub verdict_of_1000 : verdict 1024 (twice 1000) ≡ 1

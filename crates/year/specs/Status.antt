@@ -54,8 +54,7 @@ status k p =
     record {
       n = length p.tested;
       verdict = verdict k p;
-      hcnox = figures k (size_of Hcnox p) (history Hcnox p.tested);
-      co = figures k (size_of Co p) (history Co p.tested);
+      figures = record { hcnox = figures k (size_of Hcnox p) (history Hcnox p.tested); co = figures k (size_of Co p) (history Co p.tested) };
     }
 
 -- the newest engine's mark for each pollutant of a list

@@ -2,6 +2,7 @@
 #![tactic(auto)]
 
 ghost use Rattle.std.specs.Prelude.{◌≡◌, Bool, ◌&&◌};
+ghost use Rattle.year.specs.Setup.{setup_of};
 
 use cumsum::{Interval, Mark};
 use rounding::Factor;
@@ -11,6 +12,9 @@ use statistics::{Deviation, Test};
 pub const MOST_ENGINES: usize = 40;
 
 pub const MOST_EVENTS: u32 = 64;
+
+// Two for each engine.
+pub const MOST_MARKS: usize = 80;
 
 // A value for each pollutant: results or standards, in result units, factors, figures.
 #[derive(Clone, Copy, Default)]
@@ -37,6 +41,39 @@ pub struct Setup {
     pub days: u32,
     pub standards: Pair<u32>,
     pub factors: Pair<Factor>,
+}
+
+// From P, D, the two standards, and the kind and value of each factor.
+impl From<[u32; 8]> for Setup {
+    ghost from_gives = { λ numbers setup. setup ≡ setup_of numbers };
+
+    fn from(numbers: [u32; 8]) -> Setup {
+        let [
+            volume,
+            days,
+            hcnox,
+            co,
+            hcnox_kind,
+            hcnox_value,
+            co_kind,
+            co_value,
+        ] = numbers;
+        Setup {
+            volume,
+            days,
+            standards: Pair { hcnox, co },
+            factors: Pair {
+                hcnox: Factor {
+                    kind: hcnox_kind,
+                    value: hcnox_value,
+                },
+                co: Factor {
+                    kind: co_kind,
+                    value: co_value,
+                },
+            },
+        }
+    }
 }
 
 // A tested engine: its number and results, "the standard in force when [it] was entered" for each pollutant, and its period. The fields are as narrow as their
@@ -84,7 +121,7 @@ pub enum Event {
 }
 
 // One pollutant of a status: S, s and e, both C, both H, N in tenths, and the newest mark.
-#[derive(Clone, Copy)]
+#[derive(Clone, Copy, Default)]
 pub struct Figures {
     pub sum: u64,
     pub deviation: Deviation,
@@ -94,10 +131,9 @@ pub struct Figures {
     pub mark: Mark,
 }
 
-#[derive(Clone, Copy)]
+#[derive(Clone, Copy, Default)]
 pub struct Status {
     pub n: u32,
     pub verdict: u8,
-    pub hcnox: Figures,
-    pub co: Figures,
+    pub figures: Pair<Figures>,
 }

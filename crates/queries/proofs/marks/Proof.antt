@@ -7,7 +7,8 @@ use denote.Triple.Table.{entered}
 use Rattle.front_part.proofs.Form.{Output}
 use Rattle.front_part.proofs.HandsBack.{hands}
 use Rattle.reference.specs.Call.{Marks, Write, Ask}
-use Rattle.reference.specs.Answers.{refusal_on, out_after, out_part, OutputOutcome, output_outcome}
+use Rattle.reference.specs.Answers.{refusal_on, out_after, out_part, output_outcome}
+use Rattle.reference.specs.declared.OutputOutcome.{OutputOutcome}
 use Rattle.reference.proofs.Demand1.{demand-1}
 use Rattle.reference.proofs.Demand2.{demand-2}
 use Rattle.queries.proofs.write_front.Symbol as write_def

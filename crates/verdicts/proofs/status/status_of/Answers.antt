@@ -13,7 +13,7 @@ returns c =
     let p = c.args.p.now in
     rw (
       c.len.ensures.value,
-      c.number.ensures,
+      c.from.ensures,
       c.verdict.ensures,
       c.figures_of.ensures 1024 (history Hcnox (tested p.engines)) c.requires.figures.hcnox,
       c.figures_of-2.ensures 1024 (history Co (tested p.engines)) c.requires.figures.co,
