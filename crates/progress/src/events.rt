@@ -1,9 +1,7 @@
 // A setup with no events, and the step that an event makes.
-ghost use Rattle.std.specs.Prelude.{◌≡◌, true};
-ghost use Rattle.year.specs.Setup.{setup_in_range};
+ghost use Rattle.std.specs.Prelude.{◌≡◌};
 ghost use Rattle.year.specs.Replay.{start, after};
-ghost use Rattle.year.specs.Admissible.{admissible};
-ghost use Rattle.progress.specs.State.{progress_of, Consistent};
+ghost use Rattle.progress.specs.State.{MayEnter};
 
 use crate::Progress;
 use cumsum::RESOLUTION;
@@ -16,8 +14,7 @@ use year::{Event, Pair, Setup};
 impl Progress {
     // A setup with no events, in range or not.
     pub fn start(setup: Setup) -> Progress
-        ensures year { progress_of result ≡ start setup }
-        ensures consistent { setup_in_range setup ≡ true → Consistent result }
+        ensures { result ≡ start setup }
     {
         Progress {
             setup,
@@ -36,9 +33,8 @@ impl Progress {
 
     // An engine: it is added to both pollutants' figures under the standards in force.
     fn enter_engine(&mut self, number: u32, readings: u32, results: Pair<u32>)
-        requires { Consistent self.old × (admissible (progress_of self.old) (Event.Engine number readings results) ≡ true) }
-        ensures year { progress_of self.new ≡ after (Event.Engine number readings results) (progress_of self.old) }
-        ensures consistent { Consistent self.new }
+        requires { MayEnter (Event.Engine number readings results) self.old }
+        ensures { self.new ≡ after (Event.Engine number readings results) self.old }
     {
         let hcnox = Test {
             result: results.hcnox,
@@ -63,9 +59,8 @@ impl Progress {
 
     // A deletion ("strike"): the newest engine goes, and the figures are those of the engines that remain.
     fn enter_deletion(&mut self)
-        requires { Consistent self.old × (admissible (progress_of self.old) Event.Deletion ≡ true) }
-        ensures year { progress_of self.new ≡ after Event.Deletion (progress_of self.old) }
-        ensures consistent { Consistent self.new }
+        requires { MayEnter Event.Deletion self.old }
+        ensures { self.new ≡ after Event.Deletion self.old }
     {
         remove_newest(&mut self.engines);
         self.stored += 1;
@@ -74,11 +69,10 @@ impl Progress {
         self.figures = figures;
     }
 
-    // One more event, which must be admissible.
+    // One more event.
     pub fn enter(&mut self, e: Event)
-        requires { Consistent self.old × (admissible (progress_of self.old) e ≡ true) }
-        ensures year { progress_of self.new ≡ after e (progress_of self.old) }
-        ensures consistent { Consistent self.new }
+        requires { MayEnter e self.old }
+        ensures { self.new ≡ after e self.old }
     {
         match e {
             Event::Engine {
