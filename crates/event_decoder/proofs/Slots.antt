@@ -6,11 +6,14 @@ use Prim.Native.Nat.{ℕ, ◌≤◌}
 use native.Mathlib.Omega.{arith}
 use lib.Dec.{eqb}
 use lib.ListN.{length, get_or, take, drop}
+use lib.Seq.{take-take}
 use borrow.Author.Tests.{ne_eqb}
+use Rattle.std.proofs.lemmas.List.{get_or-take}
 use Rattle.buffers.specs.Bytes.{is_zero}
 use Rattle.conditions.proofs.Tests.{eqb_refl}
 use Rattle.buffers.proofs.Lists.{part-elements}
 use Rattle.buffers.proofs.LittleEndian.{Bytes, low, high}
+use Rattle.journal.specs.Read.{event_in}
 use Rattle.journal.specs.Acceptance.{is_slot}
 
 module _ (part : List ℕ) (bytes : Bytes part) (long : 8 ≤ length part) where
@@ -90,3 +93,23 @@ module _ (slot : List ℕ) (bytes : Bytes slot) (size : length slot ≡ 8) where
 
   pub other_kind : (kind_of ≡ 1 → ⊥) → (kind_of ≡ 2 → ⊥) → (3 ≤ kind_of → kind_of ≤ 5 → ⊥) → is_slot slot ≡ false
   other_kind = no_slot slot bytes long
+
+-- ---- a slot, as the front of a part of the journal
+
+module _ (part : List ℕ) where
+  pub front_event : event_in (take 8 part) ≡ event_in part
+  front_event =
+      rw (
+        get_or-take 8 part 0 0 (omega arith),
+        get_or-take 8 part 1 0 (omega arith),
+        get_or-take 8 part 2 0 (omega arith),
+        get_or-take 8 part 3 0 (omega arith),
+        get_or-take 8 part 4 0 (omega arith),
+        get_or-take 8 part 5 0 (omega arith),
+        get_or-take 8 part 6 0 (omega arith),
+        get_or-take 8 part 7 0 (omega arith),
+      )
+
+  pub front_slot : is_slot (take 8 part) ≡ is_slot part
+  unfolding is_slot
+  front_slot = rw (front_event, take-take 8 8 part (omega arith))
