@@ -1,7 +1,7 @@
 // Decoding the bytes of a journal's slot, and testing that they are in the one accepted form.
 #![tactic(auto)]
 
-ghost use Rattle.std.specs.Prelude.{◌≡◌, ◌≤◌, length};
+ghost use Rattle.std.specs.Prelude.{◌≡◌, ◌≤◌, cond, length};
 ghost use Rattle.journal.specs.Read.{event_in};
 ghost use Rattle.journal.specs.Acceptance.{is_slot};
 
@@ -42,5 +42,28 @@ pub fn is_slot(part: &[u8]) -> bool
         2 => part[1] == 0 && is_zero(&part[6..8]),
         3..=5 => is_zero(&part[1..8]),
         _ => false,
+    }
+}
+
+// The event in a slot, if it has a named kind, and its unnamed bytes are zero.
+#[tactic(auto, using(crate::proofs::Slots::engine, crate::proofs::Slots::two_standards, crate::proofs::Slots::bare, crate::proofs::Slots::other_kind))]
+pub fn read_slot(slot: &[u8; 8]) -> Option<Event>
+    ensures { result ≡ cond (is_slot slot.now) (Some (event_in slot.now)) None }
+{
+    let pair = Pair {
+        hcnox: number16(slot, 2),
+        co: number16(slot, 4),
+    };
+    match *slot {
+        [1, readings, ..] => Some(Event::Engine {
+            number: number16(slot, 6),
+            readings: u32::from(readings),
+            results: pair,
+        }),
+        [2, 0, .., 0, 0] => Some(Event::Amendment(pair)),
+        [3, 0, 0, 0, 0, 0, 0, 0] => Some(Event::NextPeriod),
+        [4, 0, 0, 0, 0, 0, 0, 0] => Some(Event::Declaration),
+        [5, 0, 0, 0, 0, 0, 0, 0] => Some(Event::Deletion),
+        _ => None,
     }
 }
