@@ -1,5 +1,5 @@
 -- What a state carries beside the year, part by part: the number of engines, and each pollutant's figures with their ranges.
-use mathlib.Core.Path.{◌≡◌, ap}
+use mathlib.Core.Path.{◌≡◌, sym, ap, ◌∙◌}
 use mathlib.Core.Bool.{true, false≢true}
 use mathlib.Core.List.{List, [], ◌∷◌}
 use Prim.Native.Nat.{ℕ, ◌+◌, ◌≤◌, ◌<◌}
@@ -9,7 +9,7 @@ use Rattle.cumsum.specs.Marks.{marks, failed, undecided}
 use Rattle.year.specs.declared.Pair.{Pair}
 use Rattle.year.specs.declared.Event.TheVariants.{Engine, Deletion}
 use Rattle.year.specs.Setup.{Pollutant, Hcnox, Co, of}
-use Rattle.year.specs.Replay.{history, tested_in, newest_in}
+use Rattle.year.specs.Replay.{Progress, history, tested_in, newest_in}
 use Rattle.year.specs.declared.Tested.{Tested}
 use Rattle.year.proofs.Replayed.{history-length}
 use Rattle.year.proofs.Ranges.{standard-le, tested-in-le, fitting, admitted-engine, after-in-range}
@@ -45,8 +45,12 @@ module _ (p : State) (c : Consistent p) where
   pub counted : length (tested p.engines) ≡ array_vec_len p.engines
   counted = length-reverse p.engines.items
 
-  pub count-le : array_vec_len p.engines ≤ 40
-  count-le = omega (arith, (c.histories Hcnox).few, history-length Hcnox (tested p.engines), counted)
+  -- the same of the year that it shows
+  pub as_many : (year : Progress) → progress_of p ≡ year → length year.tested ≡ array_vec_len p.engines
+  as_many year is = ap (λ (y : Progress). length y.tested) (sym is) ∙ counted
+
+  pub few_engines : array_vec_len p.engines ≤ 40
+  few_engines = omega (arith, (c.histories Hcnox).few, history-length Hcnox (tested p.engines), counted)
 
   carried : (q : Pollutant) → figures_of q p ≡ running 1024 (history q (tested p.engines))
   carried Hcnox = c.figures.hcnox

@@ -11,7 +11,7 @@ use Rattle.year.specs.Replay.{Progress}
 use Rattle.arrayvec.specs.ArrayVec.{array_vec_len}
 use Rattle.progress.specs.declared.Progress.{Progress as State}
 use Rattle.progress.specs.State.{progress_of}
-use Rattle.progress.proofs.Carried.{count-le, counted}
+use Rattle.progress.proofs.Carried.{few_engines, counted}
 use Rattle.engines.specs.Engines.{tested, EnginesInRange}
 use Rattle.journal.specs.Read.{read_journal}
 use Rattle.std.specs.Prelude.{Result, Ok, Err, IsErrAnd}
@@ -57,7 +57,7 @@ module _ (journal out : List ℕ) where
     engines = ap (λ m. (status_of m).n) year.holds ∙ ap (λ (q : Progress). length q.tested) (sym year.year) ∙ counted p year.consistent
 
     pub marks-few : array_vec_len p.engines ≤ 40
-    marks-few = count-le p year.consistent
+    marks-few = few_engines p year.consistent
 
     pub marks-room : 2 * array_vec_len p.engines ≤ length out
     marks-room = rw (mark-bytes (read_journal journal), engines) at (out-fits Marks journal (length out) (sym none))

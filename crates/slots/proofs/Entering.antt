@@ -23,7 +23,7 @@ use Rattle.journal.specs.Read.{setup_in, event_in, events_in}
 use Rattle.journal.specs.Acceptance.{is_slot, enters_at, enters_up_to}
 use Rattle.event_decoder.proofs.Slots.{front_slot, front_event}
 use Rattle.progress.specs.State.{MayEnter}
-use Rattle.slots.specs.Scanned.{progress_of, Entered, entered}
+use Rattle.slots.specs.Scanned.{year_of, Entered, entered}
 
 -- if one slot does not enter, the slots up to a later one do not all enter
 later : (journal : List ℕ) (j n : ℕ) → j < n → enters_at journal j ≡ false → enters_up_to journal n ≡ true → ⊥
@@ -53,7 +53,7 @@ module _ (journal : List ℕ) (n : ℕ) where
   all-entered h = rw h
 
   -- once the last slot is entered, the year is the one held
-  pub finished : (j : ℕ) (p : Progress) → j ≤ n → n ≤ j → Entered journal j p → Some p ≡ progress_of (entered journal n)
+  pub finished : (j : ℕ) (p : Progress) → j ≤ n → n ≤ j → Entered journal j p → Some p ≡ year_of (entered journal n)
   finished j p l m u =
       let same : j ≡ n = omega arith in
       let v = subst (λ k. Entered journal k p) same u in
@@ -124,7 +124,7 @@ module _ {journal : List ℕ} {j : ℕ} {p : Progress} (u : Entered journal j p)
   entering = rw u.stands
 
   -- it does not enter: the buffer holds no year
-  stopped : (n : ℕ) → j < n → (is_slot part && admissible p (event_in part)) ≡ false → None ≡ progress_of (entered journal n)
+  stopped : (n : ℕ) → j < n → (is_slot part && admissible p (event_in part)) ≡ false → None ≡ year_of (entered journal n)
   stopped n l f = rw (none-entered journal n (both-fail (setup_in_range (setup_in journal)) (enters_up_to journal n) (later journal j n l (entering ∙ f))))
 
   module _ (slot : List ℕ) (is : slot ≡ take 8 part) where
@@ -132,7 +132,7 @@ module _ {journal : List ℕ} {j : ℕ} {p : Progress} (u : Entered journal j p)
     read = rw (is, front_slot part, front_event part)
 
     -- it is not in the one form
-    pub no-slot : (n : ℕ) → j < n → None ≡ cond (is_slot slot) (Some (event_in slot)) None → None ≡ progress_of (entered journal n)
+    pub no-slot : (n : ℕ) → j < n → None ≡ cond (is_slot slot) (Some (event_in slot)) None → None ≡ year_of (entered journal n)
     no-slot n l h = let f = from-none (is_slot part) (event_in part) (h ∙ read) in stopped n l (rw f)
 
     module _ (e : Event) (h : Some e ≡ cond (is_slot slot) (Some (event_in slot)) None) where
@@ -140,7 +140,7 @@ module _ {journal : List ℕ} {j : ℕ} {p : Progress} (u : Entered journal j p)
       event = from-cond (is_slot part) (event_in part) e (h ∙ read)
 
       -- its event is not admissible
-      pub no-event : (n : ℕ) → j < n → admissible p e ≡ false → None ≡ progress_of (entered journal n)
+      pub no-event : (n : ℕ) → j < n → admissible p e ≡ false → None ≡ year_of (entered journal n)
       no-event n l f = stopped n l (rw (event.0, ← event.1, f))
 
       -- its event may be entered, and then it is one of those entered

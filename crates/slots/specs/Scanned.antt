@@ -7,9 +7,9 @@ use Rattle.journal.specs.Read.{setup_in, events_in}
 use Rattle.journal.specs.Acceptance.{enters_up_to}
 
 -- the progress of the year, and none if there is no year
-abbrev pub progress_of : Model → Option Progress
-progress_of NoSetup = None
-progress_of (Year setup events) = Some (replay setup events)
+abbrev pub year_of : Model → Option Progress
+year_of NoSetup = None
+year_of (Year setup events) = Some (replay setup events)
 
 -- the setup and the events of the first slots, if they could have been entered in that order
 unfoldable pub entered : List ℕ → ℕ → Model

@@ -2,7 +2,7 @@
 #![tactic(auto)]
 
 ghost use Rattle.std.specs.Prelude.{◌≡◌, ◌≤◌};
-ghost use Rattle.slots.specs.Scanned.{progress_of, Entered, entered};
+ghost use Rattle.slots.specs.Scanned.{year_of, Entered, entered};
 
 use admission::is_admissible;
 use event_decoder::read_slot;
@@ -13,7 +13,7 @@ use progress::Progress;
 // or its event could not be entered then.
 pub fn enter_slots(journal: &[u8; JOURNAL_SIZE], count: usize, first: Progress) -> Option<Progress>
     requires { (count ≤ 64) × Entered journal.now 0 first }
-    ensures { result ≡ progress_of (entered journal.now count) }
+    ensures { result ≡ year_of (entered journal.now count) }
 {
     let (slots, _) = journal[32..].as_chunks::<8>();
     let mut p = first;

@@ -2,11 +2,11 @@ use Rattle.std.proofs.Common.{arith}
 use Rattle.year.specs.Setup.{Hcnox, Co}
 use Rattle.year.specs.Replay.{history}
 use Rattle.engines.specs.Engines.{tested}
-use Rattle.progress.proofs.Carried.{counted, count-le}
+use Rattle.progress.proofs.Carried.{counted, few_engines}
 use Rattle.verdicts.proofs.status.status_of.Goals as goal
 
 pub overflow_cast-result : goal.overflow_cast-result
-overflow_cast-result c = omega (arith, count-le c.p.inside c.p.invariant)
+overflow_cast-result c = omega (arith, few_engines c.p.inside c.p.invariant)
 
 pub returns : goal.returns
 returns c =
