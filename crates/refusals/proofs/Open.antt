@@ -1,12 +1,10 @@
 -- The year that a journal holds, and the rows of the table that test it.
-use mathlib.Core.Path.{◌≡◌, refl, sym, ap}
-use mathlib.Core.Bool.{Bool, true, false, cond, true≢false}
+use mathlib.Core.Path.{◌≡◌}
+use mathlib.Core.Bool.{false, cond}
 use mathlib.Core.List.{List}
 use Prim.Native.Nat.{ℕ, ◌<◌}
-use lib.Dec.{leb}
-use borrow.Author.Tests.{lt-leb}
 use native.Mathlib.Omega.{arith}
-use Rattle.std.specs.Prelude.{Option, Some, None}
+use Rattle.std.specs.Prelude.{Some}
 use Rattle.conditions.specs.Rows.{first}
 use Rattle.year.specs.Replay.{Progress, replay}
 use Rattle.year.specs.Admissible.{closed, events_full}
