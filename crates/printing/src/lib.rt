@@ -14,7 +14,7 @@ ghost use Rattle.engines.specs.Engines.{tested, EnginesInRange};
 use arrayvec::ArrayVec;
 use buffers::front::put_front;
 use engines::Engines;
-use engines::rework::with_tests;
+use engines::rework::add_tests;
 use marking::marks::mark_byte;
 use year::{MOST_MARKS, Pair, Tested};
 
@@ -27,7 +27,7 @@ fn marks_of(engines: &[Tested], resolution: u64) -> ArrayVec<u8, MOST_MARKS>
     let mut marks = ArrayVec::new();
     let mut figures = Pair::default();
     for x in engines {
-        figures = with_tests(figures, x.tests(), resolution);
+        add_tests(&mut figures, x.tests(), resolution);
         marks.push(mark_byte(figures.hcnox.mark));
         marks.push(mark_byte(figures.co.mark));
     }
