@@ -11,7 +11,7 @@ use year::Tested;
 fn any_has(engines: &[Tested], number: u32) -> bool
     ensures { result ≡ list_any (λ x. eqb x.number number) engines.now }
 {
-    engines.iter().any(|x| x.number as u32 == number)
+    engines.iter().any(|x| u32::from(x.number) == number)
 }
 
 pub fn is_tested(e: &Engines, number: u32) -> bool
@@ -26,7 +26,7 @@ pub fn newest_in(e: &Engines, period: u32) -> bool
     ensures { result ≡ newest_in period (tested e.now) }
 {
     match e.as_slice() {
-        [.., newest] => newest.period as u32 == period,
+        [.., newest] => u32::from(newest.period) == period,
         [] => false,
     }
 }

@@ -12,15 +12,12 @@ pub fn no_engines() -> Engines
     Engines::new()
 }
 
-// The same numbers, each in half the width.
-fn narrow(pair: Pair<u32>) -> Pair<u16>
-    requires { (pair.hcnox ≤ 65535) × (pair.co ≤ 65535) }
-    ensures { result ≡ pair }
+// A number in half the width.
+fn narrow(x: u32) -> u16
+    requires { x ≤ 65535 }
+    ensures { result ≡ x }
 {
-    Pair {
-        hcnox: pair.hcnox as u16,
-        co: pair.co as u16,
-    }
+    x as u16
 }
 
 // Adds an engine, with the standards in force and its period.
@@ -36,9 +33,9 @@ pub fn add_engine(
     ensures { tested e.new ≡ record { number = number; results = results; standards = standards; period = period } ∷ tested e.old }
 {
     let engine = Tested {
-        number: number as u16,
-        results: narrow(results),
-        standards: narrow(standards),
+        number: narrow(number),
+        results: results.map(narrow),
+        standards: standards.map(narrow),
         period: period as u8,
     };
     e.push(engine);

@@ -22,8 +22,8 @@ fn next_sum(previous: u64, resolution: u64, x: Test, w: u64) -> u64
     requires { NextInRange previous resolution w }
     ensures { result ≡ next resolution x w previous }
 {
-    let up = previous + 4 * resolution * (x.result as u64);
-    let down = 4 * resolution * (x.standard as u64) + w;
+    let up = previous + 4 * resolution * u64::from(x.result);
+    let down = 4 * resolution * u64::from(x.standard) + w;
     up.saturating_sub(down)
 }
 

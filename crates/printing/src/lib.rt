@@ -14,9 +14,9 @@ ghost use Rattle.engines.specs.Engines.{tested, EnginesInRange};
 use arrayvec::ArrayVec;
 use buffers::front::put_front;
 use engines::Engines;
-use figures::Running;
+use engines::rework::add_tests;
 use marking::marks::mark_byte;
-use year::{MOST_MARKS, Tested};
+use year::{MOST_MARKS, Pair, Tested};
 
 // The marks of engines in order of entry, HC+NOx then CO, at any resolution.
 fn marks_of(engines: &[Tested], resolution: u64) -> ArrayVec<u8, MOST_MARKS>
@@ -25,14 +25,11 @@ fn marks_of(engines: &[Tested], resolution: u64) -> ArrayVec<u8, MOST_MARKS>
     ensures { result.items ≡ map mark_byte (printed_marks judged resolution (reverse engines.now)) }
 {
     let mut marks = ArrayVec::new();
-    let mut hcnox = Running::start();
-    let mut co = Running::start();
+    let mut figures = Pair::default();
     for x in engines {
-        let tests = x.tests();
-        hcnox = hcnox.with(tests.hcnox, resolution);
-        co = co.with(tests.co, resolution);
-        marks.push(mark_byte(hcnox.mark));
-        marks.push(mark_byte(co.mark));
+        add_tests(&mut figures, x.tests(), resolution);
+        marks.push(mark_byte(figures.hcnox.mark));
+        marks.push(mark_byte(figures.co.mark));
     }
     marks
 }

@@ -7,7 +7,6 @@ use crate::Progress;
 use cumsum::RESOLUTION;
 use engines::rework::rework;
 use engines::store::{add_engine, no_engines, remove_newest};
-use figures::Running;
 use statistics::Test;
 use year::{Event, Pair, Setup};
 
@@ -24,10 +23,7 @@ impl Progress {
             stored: 0,
             declared: false,
             current: 0,
-            figures: Pair {
-                hcnox: Running::start(),
-                co: Running::start(),
-            },
+            figures: Pair::default(),
         }
     }
 

@@ -1,1 +1,1 @@
-mod Room
+pub mod Room

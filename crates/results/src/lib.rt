@@ -2,8 +2,8 @@
 // crate rounding.
 #![tactic(auto)]
 
-ghost use Rattle.std.specs.Prelude.{◌≡◌, map, ◌^◌, ◌≤◌, ◌<◌, length};
-ghost use Rattle.rounding.specs.Result.{nearest_even, rounded, sum, factored, result_of, count_in_range, reading_in_range, factor_in_range, result_in_range};
+ghost use Rattle.std.specs.Prelude.{◌≡◌, map, ◌^◌, ◌≤◌, ◌<◌, length, sum};
+ghost use Rattle.rounding.specs.Result.{nearest_even, rounded, factored, result_of, count_in_range, reading_in_range, factor_in_range, result_in_range};
 
 use rounding::Factor;
 
@@ -25,17 +25,22 @@ pub fn nearest_even(a: u64, b: u64) -> u64
     q + q % 2
 }
 
+// A reading in result units.
+#[tactic(auto, using(crate::proofs::Room::nearest_le))]
+fn rounded(reading: u32) -> u64
+    ensures value { result ≡ rounded reading }
+    ensures below { result ≤ 4294968 }
+{
+    nearest_even(u64::from(reading), 1000)
+}
+
 // The sum of the readings, each rounded to result units.
 fn rounded_sum(readings: &[u32]) -> u64
     requires { length readings.now ≤ 3 }
     ensures total { result ≡ sum (map rounded readings.now) }
     ensures below { result < 2 ^ 24 }
 {
-    let mut total: u64 = 0;
-    for reading in readings {
-        total += nearest_even(*reading as u64, 1000);
-    }
-    total
+    readings.iter().map(|reading| rounded(*reading)).sum()
 }
 
 // A mean with the factor applied, in result units.
@@ -43,7 +48,7 @@ fn with_factor(factor: Factor, mean: u64) -> u64
     requires { mean ≤ 2 ^ 24 }
     ensures { result ≡ factored factor mean }
 {
-    let value = factor.value as u64;
+    let value = u64::from(factor.value);
     let thousandths = match factor.kind {
         0 => 1000 * mean + value,
         _ => mean * value,

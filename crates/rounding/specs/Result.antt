@@ -1,5 +1,5 @@
 -- Document 01, "From reading to result": readings in thousandths of a result unit, and the result X in result units.
-use Rattle.std.specs.Prelude.{Bool, cond, ◌&&◌, ◌||◌, List, [], ◌∷◌, map, ℕ, ◌+◌, ◌*◌, ◌/◌, ◌%◌, leb, ltb, eqb, length}
+use Rattle.std.specs.Prelude.{Bool, cond, ◌&&◌, ◌||◌, List, map, ℕ, ◌+◌, ◌*◌, ◌/◌, ◌%◌, leb, ltb, eqb, length, sum}
 use Rattle.conditions.specs.Ranges.{within}
 use Rattle.rounding.specs.declared.Factor.{Factor}
 
@@ -16,10 +16,6 @@ abbrev pub rounded : ℕ → ℕ
 rounded reading = nearest_even reading 1000
 
 -- "Add them, divide by their count, round."
-abbrev pub sum : List ℕ → ℕ
-sum [] = 0
-sum (x ∷ xs) = x + sum xs
-
 abbrev pub mean : List ℕ → ℕ
 mean xs = nearest_even (sum xs) (length xs)
 

@@ -69,5 +69,5 @@ pub fn needs(period: u32) -> u32
 pub fn one_percent(volume: u32) -> u64
     ensures { result ≡ one_percent volume }
 {
-    nearest_even(volume as u64, 100)
+    nearest_even(u64::from(volume), 100)
 }

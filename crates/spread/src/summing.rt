@@ -6,12 +6,12 @@ ghost use Rattle.spread.specs.Ranges.{SumsInRange};
 
 use crate::Sums;
 
-impl Sums {
-    // The sums with no engine.
+// The sums with no engine.
+impl Default for Sums {
+    ghost is_default = { λ s. s ≡ sums [] };
+
     #[tactic(auto, unfolding(statistics::specs::Spread::variation))]
-    pub fn none() -> Sums
-        ensures { result ≡ sums [] }
-    {
+    fn default() -> Sums {
         Sums {
             n: 0,
             total: 0,
@@ -19,14 +19,16 @@ impl Sums {
             variation: 0,
         }
     }
+}
 
+impl Sums {
     // The sums with one more engine, whatever history they are of and whatever the new engine's standard is.
     #[tactic(auto, using(crate::proofs::OneMore::sums_room, crate::proofs::OneMore::sums_next))]
     pub fn with(self, new_result: u32) -> Sums
         requires { SumsInRange self new_result }
         ensures { (h : List Test) (t : ℕ) → self ≡ sums h → result ≡ sums (record { result = new_result; standard = t } ∷ h) }
     {
-        let x = new_result as u64;
+        let x = u64::from(new_result);
         let n = self.n + 1;
         let total = self.total + x;
         let squares = self.squares + x * x;

@@ -1,7 +1,7 @@
 // The model year of one engine family: what was set up, what was entered, and the figures of a status.
 #![tactic(auto)]
 
-ghost use Rattle.std.specs.Prelude.{◌≡◌, Bool, ◌&&◌};
+ghost use Rattle.std.specs.Prelude.{◌≡◌, Bool, ◌&&◌, ◌||◌};
 ghost use Rattle.year.specs.Setup.{setup_of};
 
 use cumsum::{Interval, Mark};
@@ -24,6 +24,29 @@ pub struct Pair<T> {
 }
 
 impl<T> Pair<T> {
+    // What a function makes of each pollutant's value.
+    pub fn map<U, F: Fn(T) -> U>(self, f: F) -> Pair<U>
+        requires hcnox { F.pre f self.hcnox }
+        requires co { F.pre f self.co }
+        ensures hcnox { F.post f self.hcnox result.hcnox }
+        ensures co { F.post f self.co result.co }
+    {
+        Pair {
+            hcnox: f(self.hcnox),
+            co: f(self.co),
+        }
+    }
+
+    // Each pollutant's value beside its value in another pair.
+    pub fn zip<U>(self, other: Pair<U>) -> Pair<(T, U)>
+        ensures { result ≡ record { hcnox = (self.hcnox, other.hcnox); co = (self.co, other.co) } }
+    {
+        Pair {
+            hcnox: (self.hcnox, other.hcnox),
+            co: (self.co, other.co),
+        }
+    }
+
     // Whether both pollutants pass a test.
     pub fn both<F: Fn(T) -> bool>(self, test: F) -> bool
         requires hcnox { F.pre test self.hcnox }
@@ -31,6 +54,15 @@ impl<T> Pair<T> {
         ensures { (h o : Bool) × F.post test self.hcnox h × F.post test self.co o × (result ≡ (h && o)) }
     {
         test(self.hcnox) & test(self.co)
+    }
+
+    // Whether a pollutant passes a test.
+    pub fn either<F: Fn(T) -> bool>(self, test: F) -> bool
+        requires hcnox { F.pre test self.hcnox }
+        requires co { F.pre test self.co }
+        ensures { (h o : Bool) × F.post test self.hcnox h × F.post test self.co o × (result ≡ (h || o)) }
+    {
+        test(self.hcnox) | test(self.co)
     }
 }
 
@@ -92,16 +124,12 @@ impl Tested {
         ensures hcnox { result.hcnox ≡ record { result = self.results.hcnox; standard = self.standards.hcnox } }
         ensures co { result.co ≡ record { result = self.results.co; standard = self.standards.co } }
     {
-        Pair {
-            hcnox: Test {
-                result: self.results.hcnox as u32,
-                standard: self.standards.hcnox as u32,
-            },
-            co: Test {
-                result: self.results.co as u32,
-                standard: self.standards.co as u32,
-            },
-        }
+        self.results
+            .zip(self.standards)
+            .map(|(x, t)| Test {
+                result: u32::from(x),
+                standard: u32::from(t),
+            })
     }
 }
 

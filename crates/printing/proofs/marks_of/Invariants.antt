@@ -9,8 +9,8 @@ use Rattle.printing.proofs.marks_of.Given as goal
 
 abbrev pub invariant-loop-x : goal.invariant-loop-x
 invariant-loop-x l = record {
-  hcnox : l.hcnox ≡ running l.resolution (history Hcnox (reverse (take l.x-index l.engines)));
-  co : l.co ≡ running l.resolution (history Co (reverse (take l.x-index l.engines)));
+  hcnox : l.figures.hcnox ≡ running l.resolution (history Hcnox (reverse (take l.x-index l.engines)));
+  co : l.figures.co ≡ running l.resolution (history Co (reverse (take l.x-index l.engines)));
   marked : l.marks.items ≡ map mark_byte (printed_marks judged l.resolution (reverse (take l.x-index l.engines)));
   two_each : length l.marks.items ≡ 2 * l.x-index;
 }

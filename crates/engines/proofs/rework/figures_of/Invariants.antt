@@ -7,6 +7,6 @@ use Rattle.engines.proofs.rework.figures_of.Given as goal
 
 abbrev pub invariant-loop-x : goal.invariant-loop-x
 invariant-loop-x l = record {
-  hcnox : l.hcnox ≡ running l.resolution (history Hcnox (reverse (take l.x-index l.engines)));
-  co : l.co ≡ running l.resolution (history Co (reverse (take l.x-index l.engines)));
+  hcnox : l.figures.hcnox ≡ running l.resolution (history Hcnox (reverse (take l.x-index l.engines)));
+  co : l.figures.co ≡ running l.resolution (history Co (reverse (take l.x-index l.engines)));
 }

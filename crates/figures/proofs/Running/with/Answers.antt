@@ -1,5 +1,5 @@
 -- Each figure is computed from the one before it, by the laws for one more engine.
-use Rattle.std.proofs.Common.{◌∷◌, ap, arith, refl}
+use Rattle.std.proofs.Common.{◌∷◌, ap, arith}
 use Rattle.spread.specs.declared.Sums.{Sums}
 use Rattle.figures.proofs.OneMore.{running-sums, later, sums-in-range, deviation-fits, next_fits, limit-fits}
 use Rattle.figures.proofs.Running.with.Goals as goal
@@ -12,7 +12,7 @@ returns-then-sums-lt2 c =
     let a = c.args in
     λ h e.
     let s = c.with-sums.ensures h a.x.standard (running-sums a.resolution a.self h e) in
-    c.early.ensures a.resolution (a.x ∷ h) (omega (arith, ap (λ (z : Sums). z.n) s)) s refl
+    c.early.ensures a.resolution (a.x ∷ h) (omega (arith, ap (λ (z : Sums). z.n) s)) s c.from.ensures
 
 pub deviation-deviation-requires : goal.deviation-deviation-requires
 deviation-deviation-requires c =
@@ -38,7 +38,7 @@ pub returns : goal.returns
 returns c =
     let a = c.args in
     λ h w.
-    rw (c.undecided_pair.ensures, c.both_over.ensures)
+    rw (c.from-2.ensures, c.undecided_pair.ensures, c.both_over.ensures)
     (later a.resolution a.self a.x c.with-sums.result
     c.deviation-deviation.result c.next_cumsum-cumsum.result c.action_limit-limit.result c.compare-mark.result h w
     (c.with-sums.ensures h a.x.standard (running-sums a.resolution a.self h w)) (omega arith)
