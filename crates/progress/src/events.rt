@@ -5,10 +5,21 @@ ghost use Rattle.progress.specs.State.{MayEnter};
 
 use crate::Progress;
 use cumsum::RESOLUTION;
-use engines::rework::rework;
+use engines::rework::{add_tests, rework};
 use engines::store::{add_engine, no_engines, remove_newest};
 use statistics::Test;
 use year::{Event, Pair, Setup};
+
+// An engine with these results, as each pollutant sees it under these standards.
+fn tests_under(results: Pair<u32>, standards: Pair<u32>) -> Pair<Test>
+    ensures hcnox { result.hcnox ≡ record { result = results.hcnox; standard = standards.hcnox } }
+    ensures co { result.co ≡ record { result = results.co; standard = standards.co } }
+{
+    results.zip(standards).map(|(x, t)| Test {
+        result: x,
+        standard: t,
+    })
+}
 
 impl Progress {
     // A setup with no events, in range or not.
@@ -32,14 +43,6 @@ impl Progress {
         requires { MayEnter (Event.Engine number readings results) self.old }
         ensures { self.new ≡ after (Event.Engine number readings results) self.old }
     {
-        let hcnox = Test {
-            result: results.hcnox,
-            standard: self.standards.hcnox,
-        };
-        let co = Test {
-            result: results.co,
-            standard: self.standards.co,
-        };
         add_engine(
             &mut self.engines,
             number,
@@ -49,8 +52,7 @@ impl Progress {
         );
         self.stored += 1;
         self.current += 1;
-        self.figures.hcnox = self.figures.hcnox.with(hcnox, RESOLUTION);
-        self.figures.co = self.figures.co.with(co, RESOLUTION);
+        add_tests(&mut self.figures, tests_under(results, self.standards), RESOLUTION);
     }
 
     // A deletion ("strike"): the newest engine goes, and the figures are those of the engines that remain.
