@@ -7,6 +7,7 @@ ghost use Rattle.journal.specs.Acceptance.{is_slot};
 
 use buffers::little_endian::number16;
 use buffers::parts::is_zero;
+use journal::{SLOT_SIZE, kind};
 use year::{Event, Pair};
 
 // The event in the slot at the front of a part. A kind that no event has is read as a declaration; `is_slot` refuses it.
@@ -47,7 +48,7 @@ pub fn is_slot(part: &[u8]) -> bool
 
 // The event in a slot, if it has a named kind, and its unnamed bytes are zero.
 #[tactic(auto, using(crate::proofs::Slots::engine, crate::proofs::Slots::two_standards, crate::proofs::Slots::bare, crate::proofs::Slots::other_kind))]
-pub fn read_slot(slot: &[u8; 8]) -> Option<Event>
+pub fn read_slot(slot: &[u8; SLOT_SIZE]) -> Option<Event>
     ensures { result ≡ cond (is_slot slot.now) (Some (event_in slot.now)) None }
 {
     let pair = Pair {
@@ -55,15 +56,15 @@ pub fn read_slot(slot: &[u8; 8]) -> Option<Event>
         co: number16(slot, 4),
     };
     match *slot {
-        [1, readings, ..] => Some(Event::Engine {
+        [kind::ENGINE, readings, ..] => Some(Event::Engine {
             number: number16(slot, 6),
             readings: u32::from(readings),
             results: pair,
         }),
-        [2, 0, .., 0, 0] => Some(Event::Amendment(pair)),
-        [3, 0, 0, 0, 0, 0, 0, 0] => Some(Event::NextPeriod),
-        [4, 0, 0, 0, 0, 0, 0, 0] => Some(Event::Declaration),
-        [5, 0, 0, 0, 0, 0, 0, 0] => Some(Event::Deletion),
+        [kind::AMENDMENT, 0, .., 0, 0] => Some(Event::Amendment(pair)),
+        [kind::NEXT_PERIOD, 0, 0, 0, 0, 0, 0, 0] => Some(Event::NextPeriod),
+        [kind::DECLARATION, 0, 0, 0, 0, 0, 0, 0] => Some(Event::Declaration),
+        [kind::DELETION, 0, 0, 0, 0, 0, 0, 0] => Some(Event::Deletion),
         _ => None,
     }
 }
