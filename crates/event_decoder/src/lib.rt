@@ -2,6 +2,7 @@
 #![tactic(auto)]
 
 ghost use Rattle.std.specs.Prelude.{◌≡◌, ◌≤◌, cond, length};
+ghost use Rattle.buffers.specs.Bytes.{number16};
 ghost use Rattle.journal.specs.Read.{event_in};
 ghost use Rattle.journal.specs.Acceptance.{is_slot};
 
@@ -46,25 +47,34 @@ pub fn is_slot(part: &[u8]) -> bool
     }
 }
 
+// The results of an engine's slot, or the standards of an amendment's.
+fn pair_in(slot: &[u8; SLOT_SIZE]) -> Pair<u32>
+    ensures { result ≡ record { hcnox = number16 slot.now 2; co = number16 slot.now 4 } }
+{
+    Pair {
+        hcnox: number16(slot, 2),
+        co: number16(slot, 4),
+    }
+}
+
 // The event in a slot, if it has a named kind, and its unnamed bytes are zero.
-#[tactic(auto, using(crate::proofs::Slots::engine, crate::proofs::Slots::two_standards, crate::proofs::Slots::bare, crate::proofs::Slots::other_kind))]
+#[tactic(auto, using(crate::proofs::Slots::engine, crate::proofs::Slots::amendment, crate::proofs::Slots::next_period, crate::proofs::Slots::declaration, crate::proofs::Slots::deletion, crate::proofs::Slots::no_kind))]
 pub fn read_slot(slot: &[u8; SLOT_SIZE]) -> Option<Event>
     ensures { result ≡ cond (is_slot slot.now) (Some (event_in slot.now)) None }
 {
-    let pair = Pair {
-        hcnox: number16(slot, 2),
-        co: number16(slot, 4),
-    };
     match *slot {
         [kind::ENGINE, readings, ..] => Some(Event::Engine {
             number: number16(slot, 6),
             readings: u32::from(readings),
-            results: pair,
+            results: pair_in(slot),
         }),
-        [kind::AMENDMENT, 0, .., 0, 0] => Some(Event::Amendment(pair)),
-        [kind::NEXT_PERIOD, 0, 0, 0, 0, 0, 0, 0] => Some(Event::NextPeriod),
-        [kind::DECLARATION, 0, 0, 0, 0, 0, 0, 0] => Some(Event::Declaration),
-        [kind::DELETION, 0, 0, 0, 0, 0, 0, 0] => Some(Event::Deletion),
+        [kind::AMENDMENT, 0, .., 0, 0] => Some(Event::Amendment(pair_in(slot))),
+        [bare, 0, 0, 0, 0, 0, 0, 0] => match bare {
+            kind::NEXT_PERIOD => Some(Event::NextPeriod),
+            kind::DECLARATION => Some(Event::Declaration),
+            kind::DELETION => Some(Event::Deletion),
+            _ => None,
+        },
         _ => None,
     }
 }
