@@ -4,6 +4,7 @@ ghost use Rattle.std.specs.Prelude.{◌≤◌, ◌<◌};
 use crate::tally::Tally;
 use journal::{COUNT_PLACE, HEADER_SIZE, JOURNAL_SIZE, SLOT_SIZE, SLOTS};
 use scan::scan_journal;
+use year::MOST_EVENTS;
 
 // The longest buffer that is tried.
 const ROOM: usize = 560;
@@ -89,6 +90,6 @@ impl Sample {
                 tally.with(accepted)
             },
         );
-        self.values(COUNT_PLACE, 65, tally)
+        self.values(COUNT_PLACE, MOST_EVENTS + 1, tally)
     }
 }

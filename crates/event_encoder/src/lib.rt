@@ -59,7 +59,7 @@ fn add_slot(journal: &mut [u8; JOURNAL_SIZE], e: Event)
 }
 
 // Appends an event. The first strike makes version 1 version 2, in byte 3.
-#[tactic(auto, using(crate::proofs::Appended::first_strike, crate::proofs::Appended::not_first))]
+#[tactic(auto, using(buffers::proofs::Lists::put_one), unfolding(journal::specs::Encode::append))]
 pub fn append(journal: &mut [u8; JOURNAL_SIZE], e: Event)
     requires { (get_or journal.old 24 0 < 64) × EventFits e }
     ensures { journal.new ≡ append journal.old e }
