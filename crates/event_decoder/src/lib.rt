@@ -2,11 +2,13 @@
 #![tactic(auto)]
 
 ghost use Rattle.std.specs.Prelude.{◌≡◌, ◌≤◌, cond, length};
+ghost use Rattle.buffers.specs.Bytes.{number16};
 ghost use Rattle.journal.specs.Read.{event_in};
 ghost use Rattle.journal.specs.Acceptance.{is_slot};
 
 use buffers::little_endian::number16;
 use buffers::parts::is_zero;
+use journal::{SLOT_SIZE, kind};
 use year::{Event, Pair};
 
 // The event in the slot at the front of a part. A kind that no event has is read as a declaration; `is_slot` refuses it.
@@ -45,25 +47,34 @@ pub fn is_slot(part: &[u8]) -> bool
     }
 }
 
-// The event in a slot, if it has a named kind, and its unnamed bytes are zero.
-#[tactic(auto, using(crate::proofs::Slots::engine, crate::proofs::Slots::two_standards, crate::proofs::Slots::bare, crate::proofs::Slots::other_kind))]
-pub fn read_slot(slot: &[u8; 8]) -> Option<Event>
-    ensures { result ≡ cond (is_slot slot.now) (Some (event_in slot.now)) None }
+// The results of an engine's slot, or the standards of an amendment's.
+fn pair_in(slot: &[u8; SLOT_SIZE]) -> Pair<u32>
+    ensures { result ≡ record { hcnox = number16 slot.now 2; co = number16 slot.now 4 } }
 {
-    let pair = Pair {
+    Pair {
         hcnox: number16(slot, 2),
         co: number16(slot, 4),
-    };
+    }
+}
+
+// The event in a slot, if it has a named kind, and its unnamed bytes are zero.
+#[tactic(auto, using(crate::proofs::Slots::engine, crate::proofs::Slots::amendment, crate::proofs::Slots::next_period, crate::proofs::Slots::declaration, crate::proofs::Slots::deletion, crate::proofs::Slots::no_kind))]
+pub fn read_slot(slot: &[u8; SLOT_SIZE]) -> Option<Event>
+    ensures { result ≡ cond (is_slot slot.now) (Some (event_in slot.now)) None }
+{
     match *slot {
-        [1, readings, ..] => Some(Event::Engine {
+        [kind::ENGINE, readings, ..] => Some(Event::Engine {
             number: number16(slot, 6),
             readings: u32::from(readings),
-            results: pair,
+            results: pair_in(slot),
         }),
-        [2, 0, .., 0, 0] => Some(Event::Amendment(pair)),
-        [3, 0, 0, 0, 0, 0, 0, 0] => Some(Event::NextPeriod),
-        [4, 0, 0, 0, 0, 0, 0, 0] => Some(Event::Declaration),
-        [5, 0, 0, 0, 0, 0, 0, 0] => Some(Event::Deletion),
+        [kind::AMENDMENT, 0, .., 0, 0] => Some(Event::Amendment(pair_in(slot))),
+        [bare, 0, 0, 0, 0, 0, 0, 0] => match bare {
+            kind::NEXT_PERIOD => Some(Event::NextPeriod),
+            kind::DECLARATION => Some(Event::Declaration),
+            kind::DELETION => Some(Event::Deletion),
+            _ => None,
+        },
         _ => None,
     }
 }
