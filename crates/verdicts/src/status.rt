@@ -5,7 +5,7 @@ ghost use Rattle.year.specs.Status.{status};
 use crate::verdict::verdict;
 use engines::summary::figures_of;
 use progress::Progress;
-use year::{Pair, Status};
+use year::Status;
 
 // The calculator's status, at resolution 1,024.
 pub fn status_of(p: &Progress) -> Status
@@ -14,9 +14,6 @@ pub fn status_of(p: &Progress) -> Status
     Status {
         n: p.engines.len() as u32,
         verdict: u8::from(verdict(p)),
-        figures: Pair {
-            hcnox: figures_of(p.figures.hcnox),
-            co: figures_of(p.figures.co),
-        },
+        figures: p.figures.map(figures_of),
     }
 }

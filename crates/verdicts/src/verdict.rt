@@ -39,15 +39,12 @@ pub fn verdict_by(p: &Progress, figures: Pair<Running>) -> Verdict
     ensures { (k : ℕ) → Figured k p.now.tested figures → number_of result ≡ verdict k p.now }
 {
     let n = p.engines.len() as u64;
-    let failed = figures.hcnox.failed | figures.co.failed;
-    let undecided = figures.hcnox.undecided | figures.co.undecided;
-    let reached = reached(figures.hcnox) & reached(figures.co);
     first_verdict(&[
         (p.declared, Verdict::Declared),
-        (failed, Verdict::Failed),
-        (undecided, Verdict::Undecided),
+        (figures.either(|f| f.failed), Verdict::Failed),
+        (figures.either(|f| f.undecided), Verdict::Undecided),
         (is_short(p.current, p.period), Verdict::Short),
-        (reached, Verdict::SizeReached),
+        (figures.both(reached), Verdict::SizeReached),
         (30 <= n, Verdict::ThirtyTested),
         (one_percent(p.setup.volume) <= n, Verdict::PercentTested),
     ])
@@ -64,5 +61,5 @@ pub fn verdict(p: &Progress) -> Verdict
 pub fn closed(p: &Progress) -> bool
     ensures { result ≡ closed p.now }
 {
-    p.declared | (p.figures.hcnox.failed | p.figures.co.failed)
+    p.declared | p.figures.either(|f| f.failed)
 }

@@ -17,7 +17,7 @@ returns c =
       c.from.ensures,
       c.verdict.ensures,
       ← c.p.view_is,
-      c.figures_of.ensures 1024 (history Hcnox (tested p.engines)) c.p.invariant.figures.hcnox,
-      c.figures_of-2.ensures 1024 (history Co (tested p.engines)) c.p.invariant.figures.co,
+      c.map.ensures.hcnox 1024 (history Hcnox (tested p.engines)) c.p.invariant.figures.hcnox,
+      c.map.ensures.co 1024 (history Co (tested p.engines)) c.p.invariant.figures.co,
       counted p c.p.invariant,
     )

@@ -1,5 +1,5 @@
 -- Each row's test is the definition's, by what the state carries.
-use Rattle.std.proofs.Common.{sym, subst}
+use Rattle.std.proofs.Common.{◌≡◌, ◌||◌, sym, subst, rules}
 use Rattle.year.specs.Setup.{Hcnox, Co}
 use Rattle.year.specs.Replay.{history}
 use Rattle.year.specs.Verdict.{verdict}
@@ -14,15 +14,21 @@ returns c =
     let p = c.p.inside in
     let k = c.p.invariant in
     λ m g.
+    let o = c.args.figures in
+    let failed : c.either.result ≡ (o.hcnox.failed || o.co.failed) = search rules in
+    let undecided : c.either-2.result ≡ (o.hcnox.undecided || o.co.undecided) = search rules in
     let f : Figured m (tested p.engines) c.args.figures = subst (λ y. Figured m y.tested c.args.figures) (sym c.p.view_is) g in
     rw (
       ← c.p.view_is,
       c.first_verdict.ensures,
       c.one_percent.ensures,
-      c.reached-2.ensures m (history Co (tested p.engines)) f.co,
-      c.reached.ensures m (history Hcnox (tested p.engines)) f.hcnox,
+      c.both.ensures.4,
+      c.both.ensures.3 m (history Co (tested p.engines)) f.co,
+      c.both.ensures.2 m (history Hcnox (tested p.engines)) f.hcnox,
       c.is_short.ensures,
       k.current,
+      undecided,
+      failed,
       undecided-is p k m Hcnox c.args.figures.hcnox f.hcnox,
       undecided-is p k m Co c.args.figures.co f.co,
       failed-is p k m Hcnox c.args.figures.hcnox f.hcnox,
