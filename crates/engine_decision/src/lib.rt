@@ -51,18 +51,15 @@ pub fn engine(p: &Progress, engine: &EngineEntry<'_>) -> Result<Event, Refusal>
     ensures { result ≡ engine_decision engine.now.number (given engine.now.readings) p.now }
 {
     check_asked(p, engine)?;
-    let factors = p.setup.factors;
-    let results = Pair {
-        hcnox: result_of(factors.hcnox, engine.readings.hcnox),
-        co: result_of(factors.co, engine.readings.co),
-    };
+    let results = p
+        .setup
+        .factors
+        .zip(engine.readings)
+        .map(|(factor, readings)| result_of(factor, readings));
     check_worked(results, p.engines.len())?;
     Ok(Event::Engine {
         number: engine.number,
         readings: engine.readings.hcnox.len() as u32,
-        results: Pair {
-            hcnox: results.hcnox as u32,
-            co: results.co as u32,
-        },
+        results: results.map(|x| x as u32),
     })
 }

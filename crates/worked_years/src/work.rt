@@ -20,14 +20,14 @@ fn enter(year: &mut Progress, event: Event) {
 
 // Prints how many events were entered, the status at 1,024, and the figures of both pollutants recomputed at `resolution`, or at 8,192 if that is less.
 fn print_year<W: Write>(out: &mut W, year: &Progress, resolution: u32) -> io::Result<()> {
-    let again = rework(&year.engines, u64::from(resolution).min(8192));
+    let again = rework(&year.engines, u64::from(resolution).min(8192)).map(figures_of);
     writeln!(
         out,
         "{} {} {} {}",
         year.stored,
         Shown(status_of(year)),
-        Shown(figures_of(again.hcnox)),
-        Shown(figures_of(again.co))
+        Shown(again.hcnox),
+        Shown(again.co)
     )
 }
 

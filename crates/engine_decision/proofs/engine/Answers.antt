@@ -1,7 +1,8 @@
 -- The rows before and after the results are computed are, in this order, the engine's own rows.
-use Rattle.std.proofs.Common.{sym, ap, ◌∙◌}
+use Rattle.std.proofs.Common.{◌≡◌, sym, ap, ◌∙◌, rules}
 use Rattle.year.specs.Replay.{Progress}
 use Rattle.progress.proofs.Carried.{as_many}
+use Rattle.reference.specs.Call.{results_of}
 use Rattle.reference.proofs.Refused.{handed-on}
 use Rattle.engine_decision.specs.Given.{given}
 use Rattle.engine_decision.proofs.OneEngine.{asked_refused, results_refused, results_added}
@@ -18,14 +19,21 @@ returns-in_err-check_worked c =
     let e = c.args.engine.now in
     let h = c.in_err-check_worked in
     let f = c.from_residual-in_err-check_worked in
+    let same = ap (λ (y : Progress). y.setup) c.p.view_is in
     let many = c.len.ensures.value ∙ sym (as_many c.p.inside c.p.invariant _ c.p.view_is) in
+    let hcnox : c.map-results.result.hcnox ≡ (results_of c.p.inside.setup (given e.readings)).hcnox = search rules in
+    let co : c.map-results.result.co ≡ (results_of c.p.inside.setup (given e.readings)).co = search rules in
     handed-on f.ensures.1
-    (results_refused e.number (given e.readings) c.args.p.now c.in_ok-check_asked.ensures _ (ap (λ (y : Progress). y.setup) c.p.view_is) _ _ _ c.result_of.ensures
-    c.result_of-2.ensures many h.field-0.0 h.ensures)
+    (results_refused e.number (given e.readings) c.args.p.now c.in_ok-check_asked.ensures _ same _ _ _ hcnox co many h.field-0.0 h.ensures)
 
 pub returns : goal.returns
 returns c =
     let e = c.args.engine.now in
+    let same = ap (λ (y : Progress). y.setup) c.p.view_is in
     let many = c.len.ensures.value ∙ sym (as_many c.p.inside c.p.invariant _ c.p.view_is) in
-    results_added e.number (given e.readings) c.args.p.now c.in_ok-check_asked.ensures _ (ap (λ (y : Progress). y.setup) c.p.view_is) _ _ _ c.result_of.ensures
-    c.result_of-2.ensures many c.in_ok-check_worked.ensures
+    let hcnox : c.map-results.result.hcnox ≡ (results_of c.p.inside.setup (given e.readings)).hcnox = search rules in
+    let co : c.map-results.result.co ≡ (results_of c.p.inside.setup (given e.readings)).co = search rules in
+    let kept_hcnox : c.map.result.hcnox ≡ c.map-results.result.hcnox = search rules in
+    let kept_co : c.map.result.co ≡ c.map-results.result.co = search rules in
+    rw (kept_hcnox, kept_co)
+    (results_added e.number (given e.readings) c.args.p.now c.in_ok-check_asked.ensures _ same _ _ _ hcnox co many c.in_ok-check_worked.ensures)
