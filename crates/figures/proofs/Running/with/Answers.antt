@@ -17,21 +17,18 @@ returns-then-sums-lt2 c =
 pub deviation-deviation-requires : goal.deviation-deviation-requires
 deviation-deviation-requires c =
     let a = c.args in
-    let f = running-sums a.resolution a.self c.requires.history c.requires.worked in
-    deviation-fits a.resolution a.self a.x.result c.requires c.with-sums.result (omega arith) (λ t. c.with-sums.ensures c.requires.history t f)
+    deviation-fits a.resolution a.self a.x.result c.requires c.with-sums.result (omega arith) c.with-sums.ensures
 
 pub next_cumsum-cumsum-requires : goal.next_cumsum-cumsum-requires
 next_cumsum-cumsum-requires c =
     let a = c.args in
-    let f = running-sums a.resolution a.self c.requires.history c.requires.worked in
-    next_fits a.resolution a.self a.x.result c.requires c.with-sums.result (omega arith) (λ t. c.with-sums.ensures c.requires.history t f)
+    next_fits a.resolution a.self a.x.result c.requires c.with-sums.result (omega arith) c.with-sums.ensures
     c.deviation-deviation.result c.deviation-deviation.ensures
 
 pub action_limit-limit-requires : goal.action_limit-limit-requires
 action_limit-limit-requires c =
     let a = c.args in
-    let f = running-sums a.resolution a.self c.requires.history c.requires.worked in
-    limit-fits a.resolution a.self a.x.result c.requires c.with-sums.result (omega arith) (λ t. c.with-sums.ensures c.requires.history t f)
+    limit-fits a.resolution a.self a.x.result c.requires c.with-sums.result (omega arith) c.with-sums.ensures
     c.deviation-deviation.result c.deviation-deviation.ensures
 
 pub returns : goal.returns
