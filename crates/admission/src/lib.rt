@@ -3,7 +3,6 @@
 
 ghost use Rattle.std.specs.Prelude.{◌≡◌};
 ghost use Rattle.year.specs.Admissible.{number_in_range, results_in_range, fits, admissible};
-ghost use Rattle.progress.specs.State.{progress_of, Consistent};
 
 use engines::lookup::{is_tested, newest_in};
 use progress::Progress;
@@ -26,8 +25,7 @@ pub fn results_in_range(results: Pair<u32>) -> bool
 
 // An engine: its number is in range and new, it has 1 to 3 readings, its results are in range, and there is room for it.
 fn engine_fits(p: &Progress, number: u32, readings: u32, results: Pair<u32>) -> bool
-    requires { Consistent p.now }
-    ensures { result ≡ fits (progress_of p.now) (Event.Engine number readings results) }
+    ensures { result ≡ fits p.now (Event.Engine number readings results) }
 {
     number_in_range(number)
         && !is_tested(&p.engines, number)
@@ -38,8 +36,7 @@ fn engine_fits(p: &Progress, number: u32, readings: u32, results: Pair<u32>) -> 
 
 // The next period: there is one, and the current one is not short.
 pub fn period_fits(p: &Progress) -> bool
-    requires { Consistent p.now }
-    ensures { result ≡ fits (progress_of p.now) Event.NextPeriod }
+    ensures { result ≡ fits p.now Event.NextPeriod }
 {
     let last = periods(p.setup.volume, p.setup.days) <= p.period;
     !(last || is_short(p.current, p.period))
@@ -47,16 +44,14 @@ pub fn period_fits(p: &Progress) -> bool
 
 // A deletion ("strike"): the newest engine was entered in the current period.
 pub fn deletion_fits(p: &Progress) -> bool
-    requires { Consistent p.now }
-    ensures { result ≡ fits (progress_of p.now) Event.Deletion }
+    ensures { result ≡ fits p.now Event.Deletion }
 {
     newest_in(&p.engines, p.period)
 }
 
 // The conditions that depend on the event's kind.
 fn event_fits(p: &Progress, e: Event) -> bool
-    requires { Consistent p.now }
-    ensures { result ≡ fits (progress_of p.now) e }
+    ensures { result ≡ fits p.now e }
 {
     match e {
         Event::Engine {
@@ -74,8 +69,7 @@ fn event_fits(p: &Progress, e: Event) -> bool
 // The event could be entered now.
 #[tactic(auto, unfolding(year::specs::Admissible::admissible))]
 pub fn is_admissible(p: &Progress, e: Event) -> bool
-    requires { Consistent p.now }
-    ensures { result ≡ admissible (progress_of p.now) e }
+    ensures { result ≡ admissible p.now e }
 {
     !closed(p) && p.stored < MOST_EVENTS && event_fits(p, e)
 }

@@ -2,8 +2,9 @@
 ghost use Rattle.std.specs.Prelude.{◌≤◌, ◌<◌};
 
 use crate::tally::Tally;
-use journal::{JOURNAL_SIZE, SLOTS};
+use journal::{COUNT_PLACE, HEADER_SIZE, JOURNAL_SIZE, SLOT_SIZE, SLOTS};
 use scan::scan_journal;
+use year::MOST_EVENTS;
 
 // The longest buffer that is tried.
 const ROOM: usize = 560;
@@ -14,11 +15,9 @@ pub fn accepts(journal: &[u8]) -> bool {
 
 // Buffers of 544 equal bytes.
 pub fn filled() -> Tally {
-    let mut tally = Tally::new();
-    for value in 0..=u8::MAX {
-        tally.count(accepts(&[value; JOURNAL_SIZE]));
-    }
-    tally
+    (0..=u8::MAX).fold(Tally::new(), |tally, value| {
+        tally.with(accepts(&[value; JOURNAL_SIZE]))
+    })
 }
 
 // A journal, with sixteen zeros behind it so that longer buffers can be tried. Each public function leaves it as it was.
@@ -34,65 +33,63 @@ impl Sample {
         Sample { buffer }
     }
 
-    // Whether the first n bytes are accepted.
-    fn accepts(&self, n: usize) -> bool
-        requires { n ≤ 560 }
-    {
-        accepts(&self.buffer[..n])
+    // Whether the first n bytes are accepted; no more than there are.
+    fn accepts(&self, n: usize) -> bool {
+        self.buffer.get(..n).is_some_and(accepts)
     }
 
-    // Changes one byte to each other value below `end`, from the next one up, wrapping round to the one below.
-    fn values(&mut self, at: usize, end: u32, tally: &mut Tally)
+    // One byte changed to each other value below `end`, from the next one up, wrapping round to the one below.
+    fn values(&mut self, at: usize, end: u32, tally: Tally) -> Tally
         requires inside { at < 560 }
         requires byte_value { end ≤ 256 }
     {
         let kept = self.buffer[at];
-        for v in 1..end {
+        let tally = (1..end).fold(tally, |tally, v| {
             self.buffer[at] = ((u32::from(kept) + v) % end) as u8;
-            tally.count(self.accepts(JOURNAL_SIZE));
-        }
+            tally.with(self.accepts(JOURNAL_SIZE))
+        });
         self.buffer[at] = kept;
+        tally
     }
 
     // Every byte changed to every other value.
     pub fn bytes(&mut self) -> Tally {
-        let mut tally = Tally::new();
-        for at in 0..JOURNAL_SIZE {
-            self.values(at, 256, &mut tally);
-        }
-        tally
+        (0..JOURNAL_SIZE).fold(
+            Tally::new(),
+            |tally, at|
+                requires { at < 544 }
+            { self.values(at, 256, tally) },
+        )
     }
 
     // Every length except a journal's.
     pub fn lengths(&self) -> Tally {
-        let mut tally = Tally::new();
-        for n in 0..=ROOM {
-            if n != JOURNAL_SIZE {
-                tally.count(self.accepts(n));
-            }
-        }
-        tally
+        (0..=ROOM)
+            .filter(|n| *n != JOURNAL_SIZE)
+            .fold(Tally::new(), |tally, n| tally.with(self.accepts(n)))
     }
 
     // Exchanges a slot with the next one.
     fn exchange(&mut self, slot: usize)
         requires { slot < 63 }
     {
-        let at = 32 + 8 * slot;
-        for i in at..at + 8 {
-            self.buffer.swap(i, i + 8);
-        }
+        let (slots, _) = self.buffer[HEADER_SIZE..].as_chunks_mut::<SLOT_SIZE>();
+        slots.swap(slot, slot + 1);
     }
 
     // Adjacent slots exchanged, and every other number of events.
     pub fn slots(&mut self) -> Tally {
-        let mut tally = Tally::new();
-        for slot in 0..SLOTS - 1 {
-            self.exchange(slot);
-            tally.count(self.accepts(JOURNAL_SIZE));
-            self.exchange(slot);
-        }
-        self.values(24, 65, &mut tally);
-        tally
+        let tally = (0..SLOTS - 1).fold(
+            Tally::new(),
+            |tally, slot|
+                requires { slot < 63 }
+            {
+                self.exchange(slot);
+                let accepted = self.accepts(JOURNAL_SIZE);
+                self.exchange(slot);
+                tally.with(accepted)
+            },
+        );
+        self.values(COUNT_PLACE, MOST_EVENTS + 1, tally)
     }
 }

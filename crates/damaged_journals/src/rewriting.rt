@@ -1,31 +1,27 @@
 // A journal rewritten from what is decoded from it: its setup, and its events one by one.
-ghost use Rattle.std.specs.Prelude.{◌≤◌, length};
-
-use event_decoder::event_at;
+use event_decoder::read_slot;
 use event_encoder::append;
-use journal::{JOURNAL_SIZE, SLOTS};
+use journal::{COUNT_PLACE, JOURNAL_SIZE, SLOT_SIZE, SLOTS, slots_in};
 use setup_decoder::setup_in;
 use setup_encoder::write_setup;
 
-// Appends the event at the front of a part, if there is room.
-fn append_first(out: &mut [u8; JOURNAL_SIZE], part: &[u8])
-    requires { 8 ≤ length part.now }
-{
-    if usize::from(out[24]) < SLOTS {
-        append(out, event_at(part));
+// Appends the event of a slot, if it has one and there is room, and says whether it did.
+fn append_slot(out: &mut [u8; JOURNAL_SIZE], slot: &[u8; SLOT_SIZE]) -> bool {
+    match read_slot(slot) {
+        Some(event) if usize::from(out[COUNT_PLACE]) < SLOTS => {
+            append(out, event);
+            true
+        }
+        _ => false,
     }
 }
 
 // Whether the rewritten journal has the same bytes.
 pub fn is_rewritten(journal: &[u8; JOURNAL_SIZE]) -> bool {
-    let count = usize::from(journal[24]);
-    if SLOTS < count {
-        return false;
-    }
     let mut out = [255; JOURNAL_SIZE];
     write_setup(&mut out, setup_in(journal));
-    for j in 0..count {
-        append_first(&mut out, &journal[32 + 8 * j..]);
+    match slots_in(journal).get(..usize::from(journal[COUNT_PLACE])) {
+        Some(slots) => slots.iter().all(|slot| append_slot(&mut out, slot)) && out == *journal,
+        None => false,
     }
-    out == *journal
 }

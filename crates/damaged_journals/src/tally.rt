@@ -18,15 +18,15 @@ impl Tally {
         }
     }
 
-    // Counts one more buffer. If it is accepted, its number goes into the digest. (No count comes near the largest; it stops there, so that none wraps.)
-    pub fn count(&mut self, accepted: bool) {
-        self.tried = self.tried.saturating_add(1);
-        let mut number = 0;
-        if accepted {
-            self.accepted = self.accepted.saturating_add(1);
-            number = self.tried;
+    // With one more buffer. If it is accepted, its number goes into the digest. (No count comes near the largest; it stops there, so that none wraps.)
+    pub fn with(self, accepted: bool) -> Tally {
+        let tried = self.tried.saturating_add(1);
+        let number = if accepted { tried } else { 0 };
+        Tally {
+            tried,
+            accepted: self.accepted.saturating_add(u64::from(accepted)),
+            digest: digested(self.digest, number),
         }
-        self.digest = digested(self.digest, number);
     }
 }
 

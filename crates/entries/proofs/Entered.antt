@@ -1,87 +1,87 @@
--- What an entry promises, from the decision on it: refused, or with its event added.
-use mathlib.Core.Path.{◌≡◌, refl, sym, ap, ◌∙◌}
-use mathlib.Core.Logic.{◌≢◌}
-use mathlib.Core.Bool.{false, true≢false}
+-- What an entry promises on a buffer of a journal's size: refused by one of its own rows, or with its event added.
+use mathlib.Core.Path.{◌≡◌, sym, ap, subst, ◌∙◌}
+use mathlib.Core.Bool.{true}
 use mathlib.Core.List.{List}
-use Prim.Native.Nat.{ℕ}
-use native.Mathlib.Omega.{arith}
-use Rattle.std.specs.Prelude.{Result, Ok, Err, IsErrAnd, Option, Some, None, IsSome}
+use Prim.Native.Nat.{ℕ, ◌<◌}
+use lib.ListN.{length, get_or}
+use Rattle.std.specs.Prelude.{Result, Ok, Err, IsErrAnd, Some}
+use Rattle.conditions.specs.Rows.{first}
 use Rattle.year.specs.declared.Event.{Event}
 use Rattle.year.specs.declared.Status.{Status}
 use Rattle.year.specs.Replay.{Progress, replay, after}
 use Rattle.year.specs.Status.{status}
-use Rattle.year.specs.Model.{Model, NoSetup, Year, no_setup}
-use Rattle.progress.specs.declared.Progress.{Progress as State}
-use Rattle.progress.specs.State.{progress_of}
+use Rattle.year.specs.Setup.{setup_in_range}
+use Rattle.year.specs.Admissible.{admissible}
+use Rattle.year.proofs.Ranges.{valid-in-range}
+use Rattle.progress.specs.State.{MayEnter}
 use Rattle.journal.specs.Encode.{append}
 use Rattle.journal.specs.Read.{read_journal}
+use Rattle.journal.proofs.Reading.{read-stores}
 use Rattle.reference.specs.declared.Refusal.{Refusal}
-use Rattle.reference.specs.Refused.{number_of, named}
+use Rattle.reference.specs.Refused.{number_of, named, unless_refused}
 use Rattle.reference.specs.Call.{Entry, Enter, event_of}
 use Rattle.reference.specs.Answers.{refusal_on, status_of}
 use Rattle.reference.proofs.Refused.{ok-means, err-means, named-refusal}
-use Rattle.reference.proofs.Given.{accepted-answer, accepted-size, accepted-year, entry-admissible, entry-room}
+use Rattle.reference.proofs.Given.{accepted-answer, entry-admissible, entry-room}
 use Rattle.reference.proofs.Demand1.{demand-1}
 use Rattle.reference.proofs.Demand2.{demand-2}
 use Rattle.reference.proofs.Promises.{Promised, promised, refused}
-use Rattle.refusals.specs.Decisions.{decision, decision_on}
-use Rattle.slots.specs.Scanned.{StandsFor, ScannedAs}
-use Rattle.entries.specs.Entering.{CanAdd}
+use Rattle.refusals.specs.Parts.{standards_rows, year_rows}
+use Rattle.refusals.proofs.Decided.{own, by_own}
+use Rattle.slots.specs.Scanned.{year_of}
+use Rattle.slots.proofs.Year.{StandsFor, stands}
 
-module _ (entry : Entry) (journal : List ℕ) where
-  abbrev number : ℕ
-  number = refusal_on (Enter entry) journal
+-- the buffer holds a year, and none of the rows before the entry's own applies
+pub record Open (entry : Entry) (journal : List ℕ) (p : Progress) : Type 0 where
+  pub size : length journal ≡ 544
+  pub fit : 0 ≡ first (standards_rows entry) 0
+  pub none : 0 ≡ first (year_rows journal) 0
+  pub holds : Some p ≡ year_of (read_journal journal)
 
-  -- an entry whose event is added finds a year
-  pub finds-year : (event : Event) → Ok event ≡ decision_on entry journal → no_setup (read_journal journal) ≡ false
-  unfolding decision_on
-  finds-year event d = by (read_journal journal) d
-    where
-      by : (model : Model) → Ok event ≡ decision number entry model → no_setup model ≡ false
-      by NoSetup e = absurd (grind arith)
-      by (Year s es) e = refl
+pub opened : (entry : Entry) (journal : List ℕ) {p : Progress} → length journal ≡ 544 → 0 ≡ first (standards_rows entry) 0 → 0 ≡ first (year_rows journal) 0
+    → Some p ≡ year_of (read_journal journal) → Open entry journal p
+opened entry journal size fit none holds = record { size = size; fit = fit; none = none; holds = holds }
 
-  -- so a scan of the journal gives a state, which stands for that year
-  pub found-year : (scanned : Option State) → ScannedAs scanned (read_journal journal) → (event : Event) → Ok event ≡ decision_on entry journal → IsSome scanned
-  found-year None none event d = absurd (true≢false (sym none ∙ finds-year event d))
-  found-year (Some p) year event d = refl
+module _ (entry : Entry) (journal : List ℕ) (p : Progress) (o : Open entry journal p) (number : ℕ)
+    (rows : StandsFor p (read_journal journal) → number ≡ own entry journal) where
+  year : StandsFor p (read_journal journal)
+  year = stands (read_journal journal) p o.holds
 
-  pub scanned-year : (scanned : Option State) → ScannedAs scanned (read_journal journal) → (p : State) → scanned ≡ Some p → StandsFor p (read_journal journal)
-  scanned-year scanned s p e = rw e at s
+  number-is : number ≡ refusal_on (Enter entry) journal
+  number-is = rows year ∙ sym (by_own entry journal o.size o.fit o.none)
 
   -- refused
-  pub declined : (r : Refusal) → Err r ≡ decision_on entry journal → {a : Result Status Refusal} → IsErrAnd a (λ e. e ≡ r) → Promised (Enter entry) journal a journal
-  unfolding decision_on
+  pub declined : (r : Refusal) → Err r ≡ unless_refused number (event_of p entry) → {a : Result Status Refusal} → IsErrAnd a (λ e. e ≡ r) → Promised (Enter entry) journal a journal
   declined r d =
-      let m = by (read_journal journal) refl d in
-      refused (Enter entry) journal r (ap number_of m.1 ∙ named-refusal (Enter entry) journal m.0)
-    where
-      by : (model : Model) → read_journal journal ≡ model → Err r ≡ decision number entry model → (number ≢ 0) × (r ≡ named number)
-      by NoSetup h e = (λ z. true≢false (sym (ap no_setup h) ∙ accepted-year (Enter entry) journal z refl), grind arith)
-      by (Year s es) h e = err-means number (event_of (replay s es) entry) r e
+      let m = err-means number (event_of p entry) r d in
+      refused (Enter entry) journal r (ap number_of (m.1 ∙ ap named number-is) ∙ named-refusal (Enter entry) journal (λ z. m.0 (number-is ∙ z)))
 
-  -- added to the year that a state stands for
-  module _ (p : State) (year : StandsFor p (read_journal journal)) (event : Event) (d : Ok event ≡ decision_on entry journal) where
+  -- added
+  module _ (event : Event) (d : Ok event ≡ unless_refused number (event_of p entry)) where
     abbrev before : Progress
     before = replay year.setup year.events
 
-    accepted : (number ≡ 0) × (event ≡ event_of before entry)
-    unfolding decision_on
-    accepted = ok-means number (event_of before entry) event (d ∙ ap (decision number entry) year.holds)
+    none : refusal_on (Enter entry) journal ≡ 0
+    none = sym number-is ∙ (ok-means number (event_of p entry) event d).0
 
-    pub can-add : CanAdd journal p event
-    can-add =
+    event-is : event ≡ event_of before entry
+    event-is = (ok-means number (event_of p entry) event d).1 ∙ ap (λ q. event_of q entry) year.year
+
+    pub room : get_or journal 24 0 < 64
+    room = entry-room entry journal year.setup year.events year.holds none
+
+    pub may_enter : MayEnter event p
+    may_enter =
+        let valid = (read-stores journal year.setup year.events year.holds).valid in
         record {
-          size = accepted-size (Enter entry) journal accepted.0;
-          room = entry-room entry journal year.setup year.events year.holds accepted.0;
-          consistent = year.consistent;
-          admitted = rw (accepted.1, year.year) (entry-admissible entry journal year.setup year.events year.holds accepted.0);
+          setup = subst (λ (q : Progress). setup_in_range q.setup ≡ true) (sym year.year) (valid-in-range year.setup year.events valid).setup;
+          admitted = subst (λ q. admissible q event ≡ true) (sym year.year) (rw event-is (entry-admissible entry journal year.setup year.events year.holds none));
         }
 
-    pub entered : (x : Status) (left : List ℕ) → x ≡ status 1024 (after event (progress_of p)) → left ≡ append journal event → Promised (Enter entry) journal (Ok x) left
+    pub entered : (x : Status) (left : List ℕ) → x ≡ status 1024 (after event p) → left ≡ append journal event → Promised (Enter entry) journal (Ok x) left
     entered x left a j =
-        let stored = demand-2.entered entry journal year.setup year.events year.holds accepted.0 in
-        let shown : x ≡ status 1024 (after (event_of before entry) before) = a ∙ ap (λ q. status 1024 (after event q)) year.year ∙ ap (λ v. status 1024 (after v before)) accepted.1 in
+        let stored = demand-2.entered entry journal year.setup year.events year.holds none in
+        let shown : x ≡ status 1024 (after (event_of before entry) before) = a ∙ ap (λ q. status 1024 (after event q)) year.year ∙ ap (λ v. status 1024 (after v before)) event-is in
         promised (Enter entry) journal (Ok x) left
-        (ap Ok shown ∙ sym (accepted-answer (Enter entry) journal accepted.0 ∙ ap (λ m. Ok (status_of m)) stored))
-        (j ∙ ap (append journal) accepted.1 ∙ sym (demand-1.entry_written entry journal year.setup year.events year.holds accepted.0))
+        (ap Ok shown ∙ sym (accepted-answer (Enter entry) journal none ∙ ap (λ m. Ok (status_of m)) stored))
+        (j ∙ ap (append journal) event-is ∙ sym (demand-1.entry_written entry journal year.setup year.events year.holds none))

@@ -1,2 +1,3 @@
-pub mod SetUp
-pub mod Entered
+mod SetUp
+mod Sized
+mod Entered

@@ -3,22 +3,21 @@
 // call may write, refused or not.
 #![tactic(auto)]
 
-ghost use Rattle.std.specs.Prelude.{◌≡◌};
+ghost use Rattle.std.specs.Prelude.{◌≡◌, ◌<◌, get_or};
 ghost use Rattle.year.specs.Replay.{after};
 ghost use Rattle.year.specs.Status.{status};
-ghost use Rattle.progress.specs.State.{progress_of};
+ghost use Rattle.progress.specs.State.{MayEnter};
 ghost use Rattle.journal.specs.Encode.{append};
-ghost use Rattle.reference.specs.Call.{engine_entry, EnterChange, SetUp, Enter};
+ghost use Rattle.reference.specs.Call.{entry_of, EnterChange, SetUp, Enter};
 ghost use Rattle.reference.specs.Answers.{journal_after, answer, outcome_of, outcome};
-ghost use Rattle.entries.specs.Entering.{CanAdd};
 
-use change_decision::change;
+use change_decision::{change, check_standards};
 use engine_decision::engine;
 use event_encoder::append;
+use journal::JOURNAL_SIZE;
 use progress::Progress;
-use reference::{Answer, Change};
-use refusals::check_setup;
-use scan::scan_journal;
+use reference::{Answer, Change, EngineEntry, Refusal};
+use refusals::{check_setup, open_year};
 use setup_encoder::write_setup;
 use verdicts::status::status_of;
 use year::{Event, Setup, Status};
@@ -29,31 +28,34 @@ pub fn set_up(journal: &mut [u8], s: Setup) -> Answer
     ensures outcome { outcome_of result ≡ outcome (SetUp s) journal.old }
     ensures journal_after { journal.new ≡ journal_after (SetUp s) journal.old }
 {
-    check_setup(journal, s)?;
-    write_setup(journal.as_mut_array().unwrap(), s);
+    let whole = journal.as_mut_array().ok_or(Refusal::JournalSize)?;
+    check_setup(s)?;
+    write_setup(whole, s);
     Ok(status_of(&Progress::start(s)))
 }
 
 // Appends an event that the year admits, and gives the status of the year with it.
-fn enter(journal: &mut [u8], mut p: Progress, e: Event) -> Status
-    requires { CanAdd journal.old p e }
-    ensures status { result ≡ status 1024 (after e (progress_of p)) }
+fn add(journal: &mut [u8; JOURNAL_SIZE], mut p: Progress, e: Event) -> Status
+    requires room { get_or journal.old 24 0 < 64 }
+    requires event { MayEnter e p }
+    ensures status { result ≡ status 1024 (after e p) }
     ensures journal_after { journal.new ≡ append journal.old e }
 {
-    append(journal.as_mut_array().unwrap(), e);
+    append(journal, e);
     p.enter(e);
     status_of(&p)
 }
 
 // An engine with its number and its readings for each pollutant.
-pub fn enter_engine(journal: &mut [u8], number: u32, hcnox: &[u32], co: &[u32]) -> Answer
-    ensures answer { result ≡ answer (Enter (engine_entry number hcnox.now co.now)) journal.old }
-    ensures outcome { outcome_of result ≡ outcome (Enter (engine_entry number hcnox.now co.now)) journal.old }
-    ensures journal_after { journal.new ≡ journal_after (Enter (engine_entry number hcnox.now co.now)) journal.old }
+pub fn enter_engine(journal: &mut [u8], entry: &EngineEntry<'_>) -> Answer
+    ensures answer { result ≡ answer (Enter (entry_of entry.now)) journal.old }
+    ensures outcome { outcome_of result ≡ outcome (Enter (entry_of entry.now)) journal.old }
+    ensures journal_after { journal.new ≡ journal_after (Enter (entry_of entry.now)) journal.old }
 {
-    let scanned = scan_journal(journal);
-    let event = engine(journal, &scanned, number, hcnox, co)?;
-    Ok(enter(journal, scanned.unwrap(), event))
+    let journal = journal.as_mut_array().ok_or(Refusal::JournalSize)?;
+    let p = open_year(journal)?;
+    let event = engine(&p, entry)?;
+    Ok(add(journal, p, event))
 }
 
 // A change, which has no readings: an amendment, the next period, a declaration, a deletion ("strike").
@@ -62,7 +64,9 @@ pub fn enter_change(journal: &mut [u8], c: Change) -> Answer
     ensures outcome { outcome_of result ≡ outcome (Enter (EnterChange c)) journal.old }
     ensures journal_after { journal.new ≡ journal_after (Enter (EnterChange c)) journal.old }
 {
-    let scanned = scan_journal(journal);
-    let event = change(journal, &scanned, c)?;
-    Ok(enter(journal, scanned.unwrap(), event))
+    let journal = journal.as_mut_array().ok_or(Refusal::JournalSize)?;
+    check_standards(c)?;
+    let p = open_year(journal)?;
+    let event = change(&p, c)?;
+    Ok(add(journal, p, event))
 }

@@ -1,6 +1,5 @@
--- One more event: its slot is written, then byte 24, and byte 3 for the first strike of a journal of version 1.
-use mathlib.Core.Path.{◌≡◌, ◌∙◌}
-use mathlib.Core.Bool.{true, false}
+-- One more event: its slot is written, then byte 24.
+use mathlib.Core.Path.{◌≡◌}
 use mathlib.Core.List.{List}
 use Prim.Native.Nat.{ℕ, ◌+◌, ◌-◌, ◌≤◌, ◌<◌}
 use mathlib.Core.Logic.{inl}
@@ -10,7 +9,7 @@ use borrow.Rule.Slice.PartMut.{put_mid}
 use Rattle.buffers.specs.Bytes.{put}
 use Rattle.buffers.proofs.Lists.{put-part, put_one, put_other, length-put}
 use Rattle.year.specs.declared.Event.{Event}
-use Rattle.journal.specs.Encode.{slot_of, slot_place, with_slot, version_in, raises, append}
+use Rattle.journal.specs.Encode.{slot_of, slot_place, with_slot}
 use Rattle.journal.proofs.Encoded.{length-slot}
 
 pub appended : (journal : List ℕ) (e : Event) (place : ℕ) → place ≡ slot_place (get_or journal 24 0) → place + 8 ≤ length journal
@@ -21,12 +20,3 @@ appended journal e place p h =
     let inside : 24 < length (put journal place (slot_of e)) = omega arith in
     let kept = put_other journal place (slot_of e) 24 (omega arith) (inl (omega arith)) in
     rw (put-part journal place (place + 8) (slot_of e) filled, kept, put_one (put journal place (slot_of e)) 24 (get_or journal 24 0 + 1) inside, p)
-
-module _ (journal : List ℕ) (e : Event) where
-  pub first_strike : (left : List ℕ) → left ≡ with_slot journal e → raises e (version_in journal) ≡ true → 3 < length left → set left 3 2 ≡ append journal e
-  unfolding append
-  first_strike left l h long = put_one left 3 2 long ∙ rw (h, l)
-
-  pub not_first : raises e (version_in journal) ≡ false → with_slot journal e ≡ append journal e
-  unfolding append
-  not_first h = rw h

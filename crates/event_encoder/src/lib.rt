@@ -6,11 +6,14 @@ ghost use Rattle.journal.specs.Encode.{slot, slot_of, with_slot, version_in, rai
 ghost use Rattle.event_encoder.specs.Fits.{EventFits};
 
 use buffers::little_endian::{bytes16, number16};
-use journal::JOURNAL_SIZE;
+use journal::{
+    COUNT_PLACE, DELETION_VERSION, FIRST_VERSION, JOURNAL_SIZE, SLOT_SIZE, VERSION_PLACE, kind,
+    slot_place,
+};
 use year::{Event, Pair};
 
 // The eight bytes of a slot: its kind, the readings, and three two-byte numbers.
-fn slot(kind: u8, readings: u8, numbers: Pair<u32>, number: u32) -> [u8; 8]
+fn slot(kind: u8, readings: u8, numbers: Pair<u32>, number: u32) -> [u8; SLOT_SIZE]
     ensures { result ≡ slot (record { kind = kind; readings = readings; first = numbers.hcnox; second = numbers.co; third = number }) }
 {
     let [h0, h1] = bytes16(numbers.hcnox);
@@ -20,21 +23,20 @@ fn slot(kind: u8, readings: u8, numbers: Pair<u32>, number: u32) -> [u8; 8]
 }
 
 // The slot of an event.
-fn slot_of(e: Event) -> [u8; 8]
+fn slot_of(e: Event) -> [u8; SLOT_SIZE]
     requires { EventFits e }
     ensures { result ≡ slot_of e }
 {
-    let none = Pair { hcnox: 0, co: 0 };
     match e {
         Event::Engine {
             number,
             readings,
             results,
-        } => slot(1, readings as u8, results, number),
-        Event::Amendment(standards) => slot(2, 0, standards, 0),
-        Event::NextPeriod => slot(3, 0, none, 0),
-        Event::Declaration => slot(4, 0, none, 0),
-        Event::Deletion => slot(5, 0, none, 0),
+        } => slot(kind::ENGINE, readings as u8, results, number),
+        Event::Amendment(standards) => slot(kind::AMENDMENT, 0, standards, 0),
+        Event::NextPeriod => [kind::NEXT_PERIOD, 0, 0, 0, 0, 0, 0, 0],
+        Event::Declaration => [kind::DECLARATION, 0, 0, 0, 0, 0, 0, 0],
+        Event::Deletion => [kind::DELETION, 0, 0, 0, 0, 0, 0, 0],
     }
 }
 
@@ -42,7 +44,7 @@ fn slot_of(e: Event) -> [u8; 8]
 fn raises(journal: &[u8; JOURNAL_SIZE], e: Event) -> bool
     ensures { result ≡ raises e (version_in journal.now) }
 {
-    matches!(e, Event::Deletion) && number16(journal, 3) == 1
+    matches!(e, Event::Deletion) && number16(journal, VERSION_PLACE) == u32::from(FIRST_VERSION)
 }
 
 // Writes an event into its slot, and the number of events into byte 24.
@@ -51,13 +53,13 @@ fn add_slot(journal: &mut [u8; JOURNAL_SIZE], e: Event)
     requires { (get_or journal.old 24 0 < 64) × EventFits e }
     ensures { journal.new ≡ with_slot journal.old e }
 {
-    let at = 32 + 8 * usize::from(journal[24]);
-    journal[at..at + 8].copy_from_slice(&slot_of(e));
-    journal[24] += 1;
+    let at = slot_place(usize::from(journal[COUNT_PLACE]));
+    journal[at..at + SLOT_SIZE].copy_from_slice(&slot_of(e));
+    journal[COUNT_PLACE] += 1;
 }
 
 // Appends an event. The first strike makes version 1 version 2, in byte 3.
-#[tactic(auto, using(crate::proofs::Appended::first_strike, crate::proofs::Appended::not_first))]
+#[tactic(auto, using(buffers::proofs::Lists::put_one), unfolding(journal::specs::Encode::append))]
 pub fn append(journal: &mut [u8; JOURNAL_SIZE], e: Event)
     requires { (get_or journal.old 24 0 < 64) × EventFits e }
     ensures { journal.new ≡ append journal.old e }
@@ -65,6 +67,6 @@ pub fn append(journal: &mut [u8; JOURNAL_SIZE], e: Event)
     let first = raises(journal, e);
     add_slot(journal, e);
     if first {
-        journal[3] = 2;
+        journal[VERSION_PLACE] = DELETION_VERSION;
     }
 }

@@ -2,6 +2,7 @@
 -- accepted exactly if encoding these in the version that it says gives the same bytes, that version can hold them, and they could have been entered in that
 -- order.
 use Rattle.std.specs.Prelude.{cond, ◌&&◌, List, [], ◌∷◌, ℕ, zero, suc, eqb, get_or, drop}
+use Rattle.std.specs.Simd.{first_chunks}
 use Rattle.buffers.specs.Bytes.{number16, number32, same}
 use Rattle.year.specs.declared.Setup.{Setup}
 use Rattle.year.specs.declared.Event.{Event}
@@ -33,6 +34,10 @@ event_in part =
     (cond (eqb (get_or part 0 0) 2)
     (Amendment (record { hcnox = number16 part 2; co = number16 part 4 }))
     (cond (eqb (get_or part 0 0) 3) NextPeriod (cond (eqb (get_or part 0 0) 5) Deletion Declaration)))
+
+-- the slots, each as its eight bytes
+unfoldable pub slots_in : List ℕ → List (List ℕ)
+slots_in journal = first_chunks 8 64 (drop 32 journal)
 
 -- the events of the first slots, the newest first
 abbrev pub events_in : List ℕ → ℕ → List Event

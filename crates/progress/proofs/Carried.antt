@@ -1,5 +1,5 @@
 -- What a state carries beside the year, part by part: the number of engines, and each pollutant's figures with their ranges.
-use mathlib.Core.Path.{◌≡◌, ap}
+use mathlib.Core.Path.{◌≡◌, sym, ap, ◌∙◌}
 use mathlib.Core.Bool.{true, false≢true}
 use mathlib.Core.List.{List, [], ◌∷◌}
 use Prim.Native.Nat.{ℕ, ◌+◌, ◌≤◌, ◌<◌}
@@ -9,18 +9,17 @@ use Rattle.cumsum.specs.Marks.{marks, failed, undecided}
 use Rattle.year.specs.declared.Pair.{Pair}
 use Rattle.year.specs.declared.Event.TheVariants.{Engine, Deletion}
 use Rattle.year.specs.Setup.{Pollutant, Hcnox, Co, of}
-use Rattle.year.specs.Replay.{history, tested_in, newest_in}
+use Rattle.year.specs.Replay.{Progress, history, tested_in, newest_in}
 use Rattle.year.specs.declared.Tested.{Tested}
-use Rattle.year.specs.Admissible.{admissible}
 use Rattle.year.proofs.Replayed.{history-length}
 use Rattle.year.proofs.Ranges.{standard-le, tested-in-le, fitting, admitted-engine, after-in-range}
 use Rattle.figures.specs.declared.Running.{Running}
-use Rattle.figures.specs.Running.{running, RunningInRange, Worked}
+use Rattle.figures.specs.Running.{running, RunningInRange}
 use Rattle.engines.specs.Engines.{Engines, tested, EngineInRange, EnginesInRange}
 use Rattle.arrayvec.specs.ArrayVec.{array_vec_len}
 use Rattle.std.proofs.lemmas.List.{length-reverse}
-use Rattle.progress.specs.declared.Progress.{Progress as State}
-use Rattle.progress.specs.State.{progress_of, Consistent}
+use Rattle.progress.specs.declared.Progress.TheInside.{Inside as State}
+use Rattle.progress.specs.State.{progress_of, Consistent, MayEnter}
 
 -- the figures that a state carries for a pollutant
 abbrev pub figures_of : Pollutant → State → Running
@@ -46,8 +45,12 @@ module _ (p : State) (c : Consistent p) where
   pub counted : length (tested p.engines) ≡ array_vec_len p.engines
   counted = length-reverse p.engines.items
 
-  pub count-le : array_vec_len p.engines ≤ 40
-  count-le = omega (arith, (c.in_range.histories Hcnox).few, history-length Hcnox (tested p.engines), counted)
+  -- the same of the year that it shows
+  pub as_many : (year : Progress) → progress_of p ≡ year → length year.tested ≡ array_vec_len p.engines
+  as_many year is = ap (λ (y : Progress). length y.tested) (sym is) ∙ counted
+
+  pub few_engines : array_vec_len p.engines ≤ 40
+  few_engines = omega (arith, (c.histories Hcnox).few, history-length Hcnox (tested p.engines), counted)
 
   carried : (q : Pollutant) → figures_of q p ≡ running 1024 (history q (tested p.engines))
   carried Hcnox = c.figures.hcnox
@@ -55,9 +58,6 @@ module _ (p : State) (c : Consistent p) where
 
   -- a pollutant's figures of the year at any resolution: they are in range, and their flags are the definitions'
   module _ (k : ℕ) (q : Pollutant) (f : Running) (e : f ≡ running k (history q (tested p.engines))) where
-    pub shown-fits : Worked f
-    shown-fits = record { resolution = k; history = history q (tested p.engines); worked = e; in_range = c.in_range.histories q }
-
     pub failed-is : f.failed ≡ failed (marks k (history q (tested p.engines)))
     unfolding running
     failed-is = ap (λ (g : Running). g.failed) e
@@ -66,28 +66,29 @@ module _ (p : State) (c : Consistent p) where
     unfolding running
     undecided-is = ap (λ (g : Running). g.undecided) e
 
-  -- there is room for an engine that could be entered
-  pub room : (number readings : ℕ) (results : Pair ℕ) → admissible (progress_of p) (Engine number readings results) ≡ true → Room p number results
+  -- there is room for an engine that may be entered
+  pub room : (number readings : ℕ) (results : Pair ℕ) → MayEnter (Engine number readings results) (progress_of p) → Room p number results
   room number readings results h =
-      let a = admitted-engine (progress_of p) number readings results h in
+      let r = c.in_range h.setup in
+      let a = admitted-engine (progress_of p) number readings results h.admitted in
       let place : array_vec_len p.engines < 40 = omega (arith, a.room, counted) in
       record {
-        engine = record { place = place; number = a.number; results = a.results; standards = standard-le p.standards c.in_range.standards; period = c.in_range.period };
+        engine = record { place = place; number = a.number; results = a.results; standards = standard-le p.standards r.standards; period = r.period };
         current = omega (arith, c.current, tested-in-le p.period (tested p.engines), counted);
         figures = λ q.
             record {
               history = history q (tested p.engines);
               worked = carried q;
-              in_range = record { few = omega (arith, place, history-length q (tested p.engines), counted); tests = (c.in_range.histories q).tests };
+              in_range = record { few = omega (arith, place, history-length q (tested p.engines), counted); tests = (c.histories q).tests };
               result = a.results q;
               fine = omega arith;
             };
       }
 
-  pub deletable : admissible (progress_of p) Deletion ≡ true → Deletable p
+  pub deletable : MayEnter Deletion (progress_of p) → Deletable p
   deletable h =
-      let some = newest-counted p.period (tested p.engines) (fitting (progress_of p) Deletion h) in
-      let r = after-in-range Deletion (progress_of p) c.in_range h in
+      let some = newest-counted p.period (tested p.engines) (fitting (progress_of p) Deletion h.admitted) in
+      let r = after-in-range Deletion (progress_of p) (c.in_range h.setup) h.admitted in
       record {
         current = omega (arith, some, c.current);
         rest = λ e te. record { histories = λ q. rw te (r.histories q); fine = omega arith };

@@ -1,22 +1,30 @@
 // A setup with no events, and the step that an event makes.
-ghost use Rattle.std.specs.Prelude.{◌≡◌, true};
-ghost use Rattle.year.specs.Setup.{setup_in_range};
+ghost use Rattle.std.specs.Prelude.{◌≡◌};
 ghost use Rattle.year.specs.Replay.{start, after};
-ghost use Rattle.year.specs.Admissible.{admissible};
-ghost use Rattle.progress.specs.State.{progress_of, Consistent};
+ghost use Rattle.progress.specs.State.{MayEnter};
 
 use crate::Progress;
 use cumsum::RESOLUTION;
-use engines::rework::rework;
+use engines::rework::{add_tests, rework};
 use engines::store::{add_engine, no_engines, remove_newest};
 use statistics::Test;
 use year::{Event, Pair, Setup};
 
+// An engine with these results, as each pollutant sees it under these standards.
+fn tests_under(results: Pair<u32>, standards: Pair<u32>) -> Pair<Test>
+    ensures hcnox { result.hcnox ≡ record { result = results.hcnox; standard = standards.hcnox } }
+    ensures co { result.co ≡ record { result = results.co; standard = standards.co } }
+{
+    results.zip(standards).map(|(x, t)| Test {
+        result: x,
+        standard: t,
+    })
+}
+
 impl Progress {
     // A setup with no events, in range or not.
     pub fn start(setup: Setup) -> Progress
-        ensures year { progress_of result ≡ start setup }
-        ensures consistent { setup_in_range setup ≡ true → Consistent result }
+        ensures { result ≡ start setup }
     {
         Progress {
             setup,
@@ -32,18 +40,9 @@ impl Progress {
 
     // An engine: it is added to both pollutants' figures under the standards in force.
     fn enter_engine(&mut self, number: u32, readings: u32, results: Pair<u32>)
-        requires { Consistent self.old × (admissible (progress_of self.old) (Event.Engine number readings results) ≡ true) }
-        ensures year { progress_of self.new ≡ after (Event.Engine number readings results) (progress_of self.old) }
-        ensures consistent { Consistent self.new }
+        requires { MayEnter (Event.Engine number readings results) self.old }
+        ensures { self.new ≡ after (Event.Engine number readings results) self.old }
     {
-        let hcnox = Test {
-            result: results.hcnox,
-            standard: self.standards.hcnox,
-        };
-        let co = Test {
-            result: results.co,
-            standard: self.standards.co,
-        };
         add_engine(
             &mut self.engines,
             number,
@@ -53,15 +52,13 @@ impl Progress {
         );
         self.stored += 1;
         self.current += 1;
-        self.figures.hcnox = self.figures.hcnox.with(hcnox, RESOLUTION);
-        self.figures.co = self.figures.co.with(co, RESOLUTION);
+        add_tests(&mut self.figures, tests_under(results, self.standards), RESOLUTION);
     }
 
     // A deletion ("strike"): the newest engine goes, and the figures are those of the engines that remain.
     fn enter_deletion(&mut self)
-        requires { Consistent self.old × (admissible (progress_of self.old) Event.Deletion ≡ true) }
-        ensures year { progress_of self.new ≡ after Event.Deletion (progress_of self.old) }
-        ensures consistent { Consistent self.new }
+        requires { MayEnter Event.Deletion self.old }
+        ensures { self.new ≡ after Event.Deletion self.old }
     {
         remove_newest(&mut self.engines);
         self.stored += 1;
@@ -70,11 +67,10 @@ impl Progress {
         self.figures = figures;
     }
 
-    // One more event, which must be admissible.
+    // One more event.
     pub fn enter(&mut self, e: Event)
-        requires { Consistent self.old × (admissible (progress_of self.old) e ≡ true) }
-        ensures year { progress_of self.new ≡ after e (progress_of self.old) }
-        ensures consistent { Consistent self.new }
+        requires { MayEnter e self.old }
+        ensures { self.new ≡ after e self.old }
     {
         match e {
             Event::Engine {

@@ -1,10 +1,12 @@
-// The progress of a model year in code: one value that is carried from event to event. The definitions are in the crate year.
+// The progress of a model year in code: one value that is carried from event to event. A contract sees the progress that the definitions speak of, which are in
+// the crate year.
 #![tactic(auto)]
 
 pub mod events;
 
 use engines::Engines;
 use figures::Running;
+use std::marker::Model;
 use year::{Pair, Setup};
 
 // The setup, the standards in force, the current period, the tested engines, the number of stored events, whether a declaration was made. Also, carried
@@ -19,4 +21,16 @@ pub struct Progress {
     pub declared: bool,
     pub current: u32,
     pub figures: Pair<Running>,
+}
+
+impl Model for Progress {
+    ghost use Rattle.year.specs.Replay.{Progress as Year};
+
+    ghost Value = { Year };
+
+    ghost use Rattle.progress.specs.State.{progress_of, Consistent};
+
+    ghost view = { progress_of };
+
+    ghost invariant = { Consistent };
 }

@@ -12,9 +12,8 @@ ghost use Rattle.reference.specs.Answers.{refusal_on, answer, outcome_of, outcom
 
 use cumsum::RESOLUTION;
 use printing::print_marks;
-use reference::{Answer, OutputAnswer};
+use reference::{Answer, OutputAnswer, OutputOutcome};
 use refusals::{check_marks, check_status};
-use scan::scan_journal;
 use verdicts::status::status_of;
 
 // Status.
@@ -22,9 +21,8 @@ pub fn read_status(journal: &[u8]) -> Answer
     ensures answer { result ≡ answer (Ask ReadStatus) journal.now }
     ensures outcome { outcome_of result ≡ outcome (Ask ReadStatus) journal.now }
 {
-    let scanned = scan_journal(journal);
-    let p = check_status(journal, &scanned)?;
-    Ok(status_of(p))
+    let p = check_status(journal)?;
+    Ok(status_of(&p))
 }
 
 // Marks, at the front of the output: how many bytes they take.
@@ -33,8 +31,7 @@ pub fn write_marks(journal: &[u8], out: &mut [u8]) -> OutputAnswer
     ensures outcome { output_outcome_of result ≡ output_outcome Marks journal.now out.old }
     ensures out_after { out.new ≡ out_after Marks journal.now out.old }
 {
-    let scanned = scan_journal(journal);
-    let p = check_marks(journal, &scanned, out.len())?;
+    let p = check_marks(journal, out.len())?;
     print_marks(&p.engines, RESOLUTION, out);
     Ok(2 * p.engines.len())
 }
@@ -44,16 +41,9 @@ fn write_front(journal: &[u8], out: &mut [u8], refusal: &mut u8) -> usize
     ensures answer { record { refusal = refusal.new; length = result } ≡ output_outcome Marks journal.now out.old }
     ensures out_after { out.new ≡ out_after Marks journal.now out.old }
 {
-    match write_marks(journal, out) {
-        Ok(count) => {
-            *refusal = 0;
-            count
-        }
-        Err(met) => {
-            *refusal = u8::from(met);
-            0
-        }
-    }
+    let outcome = OutputOutcome::from(write_marks(journal, out));
+    *refusal = outcome.refusal;
+    outcome.length
 }
 
 // Marks, handing back just the written part of the output, an empty part if the call is refused. The contract gives the part's bytes, where the part starts,

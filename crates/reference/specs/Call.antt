@@ -7,6 +7,7 @@ use Rattle.year.specs.declared.Event.{Event}
 use Rattle.year.specs.declared.Event.TheVariants.{Engine, Amendment, NextPeriod, Declaration, Deletion}
 use Rattle.year.specs.Setup.{Pollutant, Hcnox, Co, factor_of}
 use Rattle.year.specs.Replay.{Progress}
+use Rattle.reference.specs.declared.EngineEntry.{EngineEntry}
 use Rattle.reference.specs.declared.Change.{Change}
 use Rattle.reference.specs.declared.Change.TheVariants.{Amend, BeginPeriod, Declare, Delete}
 
@@ -28,6 +29,10 @@ pub data Entry : Type 0 where
 -- an engine's entry from its number, its HC+NOx readings and its CO readings
 abbrev pub engine_entry : ℕ → List ℕ → List ℕ → Entry
 engine_entry number hcnox co = EnterEngine number (record { hcnox = hcnox; co = co })
+
+-- the same from an engine as a call is given it
+abbrev pub entry_of : EngineEntry → Entry
+entry_of e = engine_entry e.number e.readings.hcnox.now e.readings.co.now
 
 -- what is written into a lent output: the marks ("the strip")
 pub data Form : Type 0 where

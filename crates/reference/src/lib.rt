@@ -42,6 +42,13 @@ impl From<Refusal> for u8 {
 // An accepted setup, entry or status gives the status; a refused call gives its refusal.
 pub type Answer = Result<Status, Refusal>;
 
+// An engine: its number, and its readings for each pollutant.
+#[derive(Clone, Copy)]
+pub struct EngineEntry<'a> {
+    pub number: u32,
+    pub readings: Pair<&'a [u32]>,
+}
+
 // A change: an entry without readings. `Delete` ("strike" in document 02, W-201) removes the newest engine.
 #[derive(Clone, Copy)]
 pub enum Change {

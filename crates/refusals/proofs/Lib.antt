@@ -1,2 +1,3 @@
 pub mod Decided
 mod Marks
+mod Open

@@ -2,31 +2,30 @@
 // of its own are in the crates change_decision and engine_decision. Nothing is written.
 #![tactic(auto)]
 
-ghost use Rattle.std.specs.Prelude.{◌≡◌, true, IfOk, MatchResult};
+ghost use Rattle.std.specs.Prelude.{◌≡◌, IfOk, Some};
 ghost use Rattle.conditions.specs.Rows.{first};
-ghost use Rattle.year.specs.Model.{no_setup};
+ghost use Rattle.year.specs.Model.{NoSetup};
 ghost use Rattle.journal.specs.Read.{read_journal};
 ghost use Rattle.reference.specs.Call.{Marks, ReadStatus, Write, SetUp, Ask};
+ghost use Rattle.reference.specs.Refusals.{refusal};
 ghost use Rattle.reference.specs.Refused.{refused};
 ghost use Rattle.reference.specs.Answers.{refusal_on};
-ghost use Rattle.slots.specs.Scanned.{StandsFor, ScannedAs};
-ghost use Rattle.refusals.specs.Parts.{entry_rows};
+ghost use Rattle.slots.specs.Scanned.{year_of};
+ghost use Rattle.refusals.specs.Parts.{year_rows};
 
 use journal::JOURNAL_SIZE;
 use progress::Progress;
 use reference::Refusal;
+use scan::scan_bytes;
 use schedule::{factors_in_range, production_in_range, standards_in_range};
 use verdicts::verdict::closed;
 use year::{MOST_EVENTS, Setup};
 
-// Refusals 3, 4, 5 and 6. Setup does not test what the buffer holds.
+// Refusals 4, 5 and 6, for a setup on a buffer of a journal's size. Setup does not test what the buffer holds.
 #[tactic(auto, unfolding(reference::specs::Refusals::refusal, reference::specs::Refusals::refusals))]
-pub fn check_setup(journal: &[u8], s: Setup) -> Result<(), Refusal>
-    ensures { refused result ≡ refusal_on (SetUp s) journal.now }
+pub fn check_setup(s: Setup) -> Result<(), Refusal>
+    ensures { refused result ≡ refusal 544 (SetUp s) NoSetup }
 {
-    if journal.len() != JOURNAL_SIZE {
-        return Err(Refusal::JournalSize);
-    }
     if !production_in_range(s) {
         return Err(Refusal::ProductionRange);
     }
@@ -39,72 +38,37 @@ pub fn check_setup(journal: &[u8], s: Setup) -> Result<(), Refusal>
     Ok(())
 }
 
-// Refusal 7; otherwise the year that the journal holds.
-fn year_of<'a>(journal: &[u8], scanned: &'a Option<Progress>) -> Result<&'a Progress, Refusal>
-    requires { ScannedAs scanned.now (read_journal journal.now) }
-    ensures { MatchResult result
-        (λ p. StandsFor p.now (read_journal journal.now))
-        (λ e. (e ≡ Refusal.NotAJournal) × (no_setup (read_journal journal.now) ≡ true)) }
-{
-    match scanned {
-        Some(p) => Ok(p),
-        None => Err(Refusal::NotAJournal),
-    }
-}
-
 // Refusals 3 and 7; otherwise the year that the journal holds.
 #[tactic(auto, unfolding(reference::specs::Refusals::refusal, reference::specs::Refusals::refusals))]
-pub fn check_status<'a>(
-    journal: &[u8],
-    scanned: &'a Option<Progress>,
-) -> Result<&'a Progress, Refusal>
-    requires { ScannedAs scanned.now (read_journal journal.now) }
+pub fn check_status(journal: &[u8]) -> Result<Progress, Refusal>
     ensures refusal { refused result ≡ refusal_on (Ask ReadStatus) journal.now }
-    ensures year { IfOk result (λ p. StandsFor p.now (read_journal journal.now)) }
+    ensures year { IfOk result (λ p. Some p ≡ year_of (read_journal journal.now)) }
 {
-    if journal.len() != JOURNAL_SIZE {
-        return Err(Refusal::JournalSize);
-    }
-    year_of(journal, scanned)
+    let journal = journal.as_array().ok_or(Refusal::JournalSize)?;
+    scan_bytes(journal).ok_or(Refusal::NotAJournal)
 }
 
 // Refusals 3, 7 and 16, for an output of this size; otherwise the year that the journal holds.
-#[tactic(auto, using(crate::proofs::Marks::marks_refused, crate::proofs::Marks::marks_too_many, crate::proofs::Marks::marks_fit, crate::proofs::Marks::few_engines))]
-pub fn check_marks<'a>(
-    journal: &[u8],
-    scanned: &'a Option<Progress>,
-    size: usize,
-) -> Result<&'a Progress, Refusal>
-    requires { ScannedAs scanned.now (read_journal journal.now) }
+#[tactic(auto, using(crate::proofs::Marks::marks_refused))]
+pub fn check_marks(journal: &[u8], size: usize) -> Result<Progress, Refusal>
     ensures refusal { refused result ≡ refusal_on (Ask (Write Marks size)) journal.now }
-    ensures year { IfOk result (λ p. StandsFor p.now (read_journal journal.now)) }
+    ensures year { IfOk result (λ p. Some p ≡ year_of (read_journal journal.now)) }
 {
-    let p = check_status(journal, scanned)?;
+    let p = check_status(journal)?;
     if size < 2 * p.engines.len() {
         return Err(Refusal::OutputSize);
     }
     Ok(p)
 }
 
-// Refusals 3, 7, 8 and 9, which can apply to every entry, and in its place in the order 5, which applies if an amendment's standards are unfit; otherwise the
-// year that the journal holds.
-pub fn check_entry<'a>(
-    journal: &[u8],
-    unfit: bool,
-    scanned: &'a Option<Progress>,
-) -> Result<&'a Progress, Refusal>
-    requires { ScannedAs scanned.now (read_journal journal.now) }
-    ensures refusal { refused result ≡ first (entry_rows unfit journal.now) 0 }
-    ensures year { IfOk result (λ p. StandsFor p.now (read_journal journal.now)) }
+// Refusals 7, 8 and 9, which can apply to every entry; otherwise the year that the journal holds.
+#[tactic(auto, using(crate::proofs::Open::open_none))]
+pub fn open_year(journal: &[u8; JOURNAL_SIZE]) -> Result<Progress, Refusal>
+    ensures refusal { refused result ≡ first (year_rows journal.now) 0 }
+    ensures year { IfOk result (λ p. Some p ≡ year_of (read_journal journal.now)) }
 {
-    if journal.len() != JOURNAL_SIZE {
-        return Err(Refusal::JournalSize);
-    }
-    if unfit {
-        return Err(Refusal::StandardRange);
-    }
-    let p = year_of(journal, scanned)?;
-    if closed(p) {
+    let p = scan_bytes(journal).ok_or(Refusal::NotAJournal)?;
+    if closed(&p) {
         return Err(Refusal::YearClosed);
     }
     if MOST_EVENTS <= p.stored {

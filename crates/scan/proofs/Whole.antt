@@ -1,5 +1,5 @@
 -- The tests of a whole buffer, in the code's order: size, number of events, header, version and unused slots, and then the events.
-use mathlib.Core.Path.{◌≡◌, refl, sym, ◌∙◌}
+use mathlib.Core.Path.{◌≡◌, refl, sym, ap, ◌∙◌}
 use mathlib.Core.Bool.{Bool, true, false, ◌&&◌, true≢false, and-eq-true_iff}
 use mathlib.Core.List.{List}
 use Prim.Native.Nat.{ℕ, ◌-◌, ◌≤◌, ◌<◌}
@@ -8,31 +8,41 @@ use lib.ListN.{length, get_or, take, drop}
 use Rattle.buffers.specs.Bytes.{is_zero}
 use Rattle.buffers.proofs.Lists.{part-from}
 use Rattle.conditions.proofs.Tests.{and-true}
+use Rattle.year.specs.declared.Setup.{Setup}
 use Rattle.year.specs.Setup.{setup_in_range}
 use Rattle.journal.specs.Encode.{slot_place}
 use Rattle.journal.specs.Read.{setup_in, read_journal}
 use Rattle.journal.specs.Acceptance.{is_header, is_version, enters_up_to}
 use Rattle.journal.proofs.Exactly.{acceptable-read, not-acceptable}
 use Rattle.std.specs.Prelude.{None}
-use Rattle.slots.specs.Scanned.{ScannedAs, entered}
-use Rattle.slots.proofs.Entering.{no_year, none-entered, all-entered}
+use Rattle.year.specs.Model.{Model, NoSetup}
+use Rattle.slots.specs.Scanned.{year_of, entered}
+use Rattle.slots.proofs.Entering.{none-entered, all-entered}
+
+-- no state, where there is no year
+no_year : {model : Model} → model ≡ NoSetup → None ≡ year_of model
+no_year e = rw e
 
 module _ (journal : List ℕ) where
   abbrev count : ℕ
   count = get_or journal 24 0
 
-  pub other_size : (length journal ≡ 544 → ⊥) → ScannedAs None (read_journal journal)
+  pub other_size : (length journal ≡ 544 → ⊥) → None ≡ year_of (read_journal journal)
   other_size f = no_year (not-acceptable journal (λ p. f p.size))
 
-  pub too_many : 64 < count → ScannedAs None (read_journal journal)
+  pub too_many : 64 < count → None ≡ year_of (read_journal journal)
   too_many h = no_year (not-acceptable journal (λ p. omega (arith, p.count)))
+
+  -- the setup of the header is out of range: nothing is entered
+  pub other-setup : (setup : Setup) → setup ≡ setup_in journal → (ranged : Bool) → ranged ≡ setup_in_range setup → (n : ℕ) → ranged ≡ false → None ≡ year_of (entered journal n)
+  other-setup setup is ranged test n f = no_year (none-entered journal n (rw (sym (ap setup_in_range is) ∙ sym test ∙ f)))
 
   module _ (n : length journal ≡ 544) (header version zero : Bool) (eh : header ≡ is_header journal) (ev : version ≡ is_version journal count)
       (ez : zero ≡ is_zero (take (544 - slot_place count) (drop (slot_place count) journal))) where
     unused-is : zero ≡ is_zero (drop (slot_place count) journal)
     unused-is = rw (rw n at (part-from journal (slot_place count))) at ez
 
-    pub other-bytes : ((header && version) && zero) ≡ false → ScannedAs None (read_journal journal)
+    pub other-bytes : ((header && version) && zero) ≡ false → None ≡ year_of (read_journal journal)
     other-bytes h =
         no_year (not-acceptable journal (λ p. true≢false (sym (and-true (and-true (eh ∙ p.header) (ev ∙ p.version)) (unused-is ∙ p.unused)) ∙ h)))
 

@@ -1,9 +1,9 @@
 // Reading a buffer of any length and content as a journal, from its first event to its last.
 #![tactic(auto)]
 
-ghost use Rattle.std.specs.Prelude.{◌≤◌};
+ghost use Rattle.std.specs.Prelude.{◌≡◌, ◌≤◌};
 ghost use Rattle.journal.specs.Read.{read_journal};
-ghost use Rattle.slots.specs.Scanned.{ScannedAs, entered};
+ghost use Rattle.slots.specs.Scanned.{year_of, entered};
 
 use buffers::parts::is_zero;
 use journal::{JOURNAL_SIZE, SLOTS};
@@ -16,7 +16,7 @@ use versions::is_version;
 // Decodes the setup, and enters the events of the slots.
 fn scan_events(journal: &[u8; JOURNAL_SIZE], count: usize) -> Option<Progress>
     requires { count ≤ 64 }
-    ensures { ScannedAs result (entered journal.now count) }
+    ensures { result ≡ year_of (entered journal.now count) }
 {
     let setup = setup_in(journal);
     if !setup_in_range(setup) {
@@ -26,8 +26,8 @@ fn scan_events(journal: &[u8; JOURNAL_SIZE], count: usize) -> Option<Progress>
 }
 
 // Reads a buffer of a journal's size: tests its header, version and unused slots, and then enters its events.
-fn scan_bytes(journal: &[u8; JOURNAL_SIZE]) -> Option<Progress>
-    ensures { ScannedAs result (read_journal journal.now) }
+pub fn scan_bytes(journal: &[u8; JOURNAL_SIZE]) -> Option<Progress>
+    ensures { result ≡ year_of (read_journal journal.now) }
 {
     let count = journal[24] as usize;
     if SLOTS < count {
@@ -45,7 +45,7 @@ fn scan_bytes(journal: &[u8; JOURNAL_SIZE]) -> Option<Progress>
 // Reads a whole buffer, whatever its size.
 #[tactic(auto, using(crate::proofs::Whole::other_size))]
 pub fn scan_journal(journal: &[u8]) -> Option<Progress>
-    ensures { ScannedAs result (read_journal journal.now) }
+    ensures { result ≡ year_of (read_journal journal.now) }
 {
     match journal.as_array() {
         Some(whole) => scan_bytes(whole),

@@ -7,15 +7,15 @@ use Prim.Native.Nat.{ℕ, ◌≤◌}
 use native.Mathlib.Omega.{arith}
 use lib.ListN.{length, take, drop}
 use Rattle.conditions.proofs.Tests.{eqb_refl}
-use Rattle.buffers.specs.Bytes.{is_zero}
+use Rattle.buffers.specs.Bytes.{same, is_zero}
 use Rattle.buffers.proofs.Lists.{part-elements}
 use Rattle.buffers.proofs.LittleEndian.{Bytes, low, high, low32, high32, upper32}
+use Rattle.ascii.specs.Text.{text}
 use Rattle.journal.specs.Acceptance.{is_header}
-use Rattle.setup_decoder.specs.Parts.{is_start}
 
 module _ (journal : List ℕ) (long : 32 ≤ length journal) where
   -- the code's tests of the whole header are the definition
-  pub header_tests : Bytes journal → (is_start journal && is_zero (take 3 (drop 5 journal)) && is_zero (take 7 (drop 25 journal))) ≡ is_header journal
+  pub header_tests : Bytes journal → (same (text "PLT") (take 3 journal) && is_zero (take 3 (drop 5 journal)) && is_zero (take 7 (drop 25 journal))) ≡ is_header journal
   unfolding is_header
   header_tests bytes =
       rw (

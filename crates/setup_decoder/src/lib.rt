@@ -4,10 +4,10 @@
 ghost use Rattle.std.specs.Prelude.{◌≡◌, ◌≤◌, length};
 ghost use Rattle.journal.specs.Read.{setup_in};
 ghost use Rattle.journal.specs.Acceptance.{is_header};
-ghost use Rattle.setup_decoder.specs.Parts.{is_start};
 
 use buffers::little_endian::{number16, number32};
 use buffers::parts::is_zero;
+use journal::HEADER_SIZE;
 use rounding::Factor;
 use year::{Pair, Setup};
 
@@ -36,19 +36,11 @@ pub fn setup_in(journal: &[u8]) -> Setup
     }
 }
 
-// "PLT".
-fn is_start(journal: &[u8]) -> bool
-    requires { 32 ≤ length journal.now }
-    ensures { result ≡ is_start journal.now }
-{
-    journal.starts_with(b"PLT")
-}
-
 // Whether the first 32 bytes encode some version, setup and number of events: the bytes that are the same for all of these are as they must be.
 #[tactic(auto, using(crate::proofs::Headers::header_tests))]
 pub fn is_header(journal: &[u8]) -> bool
     requires { 32 ≤ length journal.now }
     ensures { result ≡ is_header journal.now }
 {
-    is_start(journal) && is_zero(&journal[5..8]) && is_zero(&journal[25..32])
+    journal.starts_with(b"PLT") && is_zero(&journal[5..8]) && is_zero(&journal[25..HEADER_SIZE])
 }

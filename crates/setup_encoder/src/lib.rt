@@ -6,17 +6,17 @@ ghost use Rattle.journal.specs.Encode.{setup_version, header, encode};
 ghost use Rattle.setup_encoder.specs.Fits.{SetupFits};
 
 use buffers::little_endian::{bytes16, bytes32};
-use journal::JOURNAL_SIZE;
+use journal::{FIRST_VERSION, HEADER_SIZE, JOURNAL_SIZE, VERSION_PLACE};
 use year::Setup;
 
 // The first 32 bytes: "PLT", version 1, the setup, and no events.
-fn header(s: Setup) -> [u8; 32]
+fn header(s: Setup) -> [u8; HEADER_SIZE]
     requires { SetupFits s }
     ensures { result ≡ header setup_version s 0 }
 {
-    let mut header = [0; 32];
+    let mut header = [0; HEADER_SIZE];
     header[0..3].copy_from_slice(b"PLT");
-    header[3] = 1;
+    header[VERSION_PLACE] = FIRST_VERSION;
     header[8..12].copy_from_slice(&bytes32(s.volume));
     header[12..14].copy_from_slice(&bytes16(s.days));
     header[14..16].copy_from_slice(&bytes16(s.standards.hcnox));
@@ -34,5 +34,5 @@ pub fn write_setup(journal: &mut [u8; JOURNAL_SIZE], s: Setup)
     ensures { journal.new ≡ encode setup_version s [] }
 {
     journal.fill(0);
-    journal[..32].copy_from_slice(&header(s));
+    journal[..HEADER_SIZE].copy_from_slice(&header(s));
 }

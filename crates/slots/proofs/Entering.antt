@@ -1,28 +1,29 @@
--- The slots entered one after another: the state after the first j slots, and what one more slot changes.
+-- The slots entered one after another: the year after the first j slots, and what one more slot changes.
 use mathlib.Core.Path.{◌≡◌, refl, sym, ap, subst, ◌∙◌}
-use mathlib.Core.Bool.{Bool, true, false, ◌&&◌, true≢false, and-false, and-eq-true_iff}
-use mathlib.Core.List.{List}
-use Prim.Native.Nat.{ℕ, zero, suc, ◌+◌, ◌-◌, ◌≤◌, ◌<◌}
+use mathlib.Core.Bool.{Bool, true, false, cond, ◌&&◌, true≢false, and-eq-true_iff}
+use mathlib.Core.List.{List, []}
+use Prim.Native.Nat.{ℕ, zero, suc, ◌+◌, ◌*◌, ◌/◌, ◌≤◌, ◌<◌}
 use native.Mathlib.Decide.{dec_lt}
 use native.Mathlib.Numerals.{add-one}
 use native.Mathlib.Omega.{arith}
-use lib.ListN.{length, take, drop}
-use Rattle.std.specs.Prelude.{Some, None}
+use lib.ListN.{length, get_or, take, drop}
+use Rattle.std.specs.Prelude.{Option, Some, None}
+use Rattle.std.specs.Simd.{first_chunks}
+use Rattle.std.proofs.lemmas.List.{get_or-take, drop-drop, length-take, length-drop}
 use Rattle.buffers.proofs.Lists.{part-from}
 use Rattle.conditions.proofs.Tests.{and-true}
-use Rattle.year.specs.declared.Setup.{Setup}
 use Rattle.year.specs.declared.Event.{Event}
 use Rattle.year.specs.Setup.{setup_in_range}
-use Rattle.year.specs.Replay.{after}
+use Rattle.year.specs.Replay.{Progress, after}
 use Rattle.year.specs.Admissible.{admissible}
-use Rattle.year.specs.Model.{Model, NoSetup, Year}
+use Rattle.year.proofs.Replayed.{replay-setup}
+use Rattle.year.specs.Model.{NoSetup, Year}
 use Rattle.journal.specs.Encode.{slot_place}
 use Rattle.journal.specs.Read.{setup_in, event_in, events_in}
 use Rattle.journal.specs.Acceptance.{is_slot, enters_at, enters_up_to}
-use Rattle.progress.specs.declared.Progress.{Progress as State}
-use Rattle.progress.specs.State.{progress_of}
-use Rattle.progress.proofs.Steps.{Represents}
-use Rattle.slots.specs.Scanned.{ScannedAs, Entered, entered}
+use Rattle.event_decoder.proofs.Slots.{front_slot, front_event}
+use Rattle.progress.specs.State.{MayEnter}
+use Rattle.slots.specs.Scanned.{year_of, Entered, entered}
 
 -- if one slot does not enter, the slots up to a later one do not all enter
 later : (journal : List ℕ) (j n : ℕ) → j < n → enters_at journal j ≡ false → enters_up_to journal n ≡ true → ⊥
@@ -42,10 +43,6 @@ both-fail true true f = absurd (f refl)
 both-fail true false f = refl
 both-fail false b f = refl
 
--- no state, where there is no year
-pub no_year : {model : Model} → model ≡ NoSetup → ScannedAs None model
-no_year e = rw e
-
 module _ (journal : List ℕ) (n : ℕ) where
   pub none-entered : (setup_in_range (setup_in journal) && enters_up_to journal n) ≡ false → entered journal n ≡ NoSetup
   unfolding entered
@@ -55,49 +52,106 @@ module _ (journal : List ℕ) (n : ℕ) where
   unfolding entered
   all-entered h = rw h
 
-  -- with a slot that does not enter, the buffer holds no year
-  pub stopped : (j : ℕ) → j < n → enters_at journal j ≡ false → entered journal n ≡ NoSetup
-  stopped j l f = none-entered (both-fail (setup_in_range (setup_in journal)) (enters_up_to journal n) (later journal j n l f))
-
-  -- once the last slot is entered, the state is that of the year held
-  pub finished : (j : ℕ) (p : State) → j ≤ n → n ≤ j → Entered journal j p → ScannedAs (Some p) (entered journal n)
+  -- once the last slot is entered, the year is the one held
+  pub finished : (j : ℕ) (p : Progress) → j ≤ n → n ≤ j → Entered journal j p → Some p ≡ year_of (entered journal n)
   finished j p l m u =
       let same : j ≡ n = omega arith in
       let v = subst (λ k. Entered journal k p) same u in
-      rw (all-entered (and-true v.setup v.enters)) (record { setup = setup_in journal; events = events_in journal n; holds = refl; year = v.stands; consistent = v.consistent })
+      rw (all-entered (and-true v.setup v.enters), ← v.stands)
 
--- the code found the setup in the header to be out of range: nothing is entered
-pub no-setup : (journal : List ℕ) (s : Setup) (r : Bool) → s ≡ setup_in journal → r ≡ setup_in_range s → (n : ℕ) → r ≡ false → entered journal n ≡ NoSetup
-no-setup journal s r e t n h = none-entered journal n (rw (sym (ap setup_in_range e) ∙ sym t ∙ h))
+-- the chunks of a list are its parts one after another
+chunk-at : (k j : ℕ) (xs : List ℕ) → j < k → get_or (first_chunks 8 k xs) j [] ≡ take 8 (drop (8 * j) xs)
+chunk-at zero j xs l = let none : ⊥ = omega arith in absurd none
+chunk-at (suc k) zero xs l = refl
+chunk-at (suc k) (suc j) xs l =
+    let next : 8 + 8 * j ≡ 8 * suc j = omega arith in
+    chunk-at k j (drop 8 xs) (omega arith) ∙ ap (take 8) (drop-drop (8 * j) 8 xs ∙ ap (λ i. drop i xs) next)
 
--- one slot, in the state after those before it
-module _ {journal : List ℕ} {j : ℕ} {p : State} (size : length journal ≡ 544) (u : Entered journal j p) where
+length-chunks : (k : ℕ) (xs : List ℕ) → length (first_chunks 8 k xs) ≡ k
+length-chunks zero xs = refl
+length-chunks (suc k) xs = ap suc (length-chunks k (drop 8 xs))
+
+-- the first n of a journal's slots, as chunks of the bytes from 32 on
+module _ (journal : List ℕ) (size : length journal ≡ 544) (n : ℕ) (few : n ≤ 64) (chunks : List (List ℕ))
+    (front : chunks ≡ first_chunks 8 (length (take 512 (drop 32 journal)) / 8) (take 512 (drop 32 journal))) where
+  whole : take 512 (drop 32 journal) ≡ drop 32 journal
+  whole = rw size at (part-from journal 32)
+
+  slots : chunks ≡ first_chunks 8 64 (drop 32 journal)
+  slots =
+      let long : length (drop 32 journal) ≡ 512 = omega (arith, length-drop 32 journal, size) in
+      front ∙ rw (whole, long)
+
+  pub all : length (take n chunks) ≡ n
+  all =
+      let long : length (first_chunks 8 64 (drop 32 journal)) ≡ 64 = length-chunks 64 (drop 32 journal) in
+      omega (arith, few, length-take n chunks, ap length slots, long)
+
+  pub slot-at : (j : ℕ) → j < length (take n chunks) → (j < n) × (get_or (take n chunks) j [] ≡ take 8 (drop (slot_place j) journal))
+  slot-at j l =
+      let below : j < n = omega (arith, all, l) in
+      (
+        below,
+        get_or-take n chunks j [] below
+        ∙ rw slots (chunk-at 64 j (drop 32 journal) (omega arith))
+        ∙ ap (take 8) (drop-drop (8 * j) 32 journal),
+      )
+
+abbrev given : Event → Option Event → Event
+given d (Some e) = e
+given d None = d
+
+abbrev is_some : Option Event → Bool
+is_some (Some e) = true
+is_some None = false
+
+-- a slot as it is read: an event if it is in the one form
+from-cond : (b : Bool) (x e : Event) → Some e ≡ cond b (Some x) None → (b ≡ true) × (e ≡ x)
+from-cond true x e h = (refl, ap (given x) h)
+from-cond false x e h = absurd (true≢false (ap is_some h))
+
+from-none : (b : Bool) (x : Event) → None ≡ cond b (Some x) None → b ≡ false
+from-none true x h = absurd (true≢false (sym (ap is_some h)))
+from-none false x h = refl
+
+-- one slot, in the year of those before it
+module _ {journal : List ℕ} {j : ℕ} {p : Progress} (u : Entered journal j p) where
   abbrev part : List ℕ
-  part = take (544 - slot_place j) (drop (slot_place j) journal)
+  part = drop (slot_place j) journal
 
-  rest : part ≡ drop (slot_place j) journal
-  rest = rw size at (part-from journal (slot_place j))
-
-  entering : enters_at journal j ≡ (is_slot part && admissible (progress_of p) (event_in part))
+  entering : enters_at journal j ≡ (is_slot part && admissible p (event_in part))
   unfolding enters_at
-  entering = rw (rest, u.stands)
+  entering = rw u.stands
 
-  -- it is not in the one form: the buffer holds no year
-  pub refused-slot : (n : ℕ) → j < n → is_slot part ≡ false → ScannedAs None (entered journal n)
-  refused-slot n l t = no_year (stopped journal n j l (entering ∙ rw t))
+  -- it does not enter: the buffer holds no year
+  stopped : (n : ℕ) → j < n → (is_slot part && admissible p (event_in part)) ≡ false → None ≡ year_of (entered journal n)
+  stopped n l f = rw (none-entered journal n (both-fail (setup_in_range (setup_in journal)) (enters_up_to journal n) (later journal j n l (entering ∙ f))))
 
-  -- its event is not admissible: neither
-  pub refused-event : (n : ℕ) → j < n → admissible (progress_of p) (event_in part) ≡ false → ScannedAs None (entered journal n)
-  refused-event n l t = no_year (stopped journal n j l (entering ∙ rw t (and-false (is_slot part))))
+  module _ (slot : List ℕ) (is : slot ≡ take 8 part) where
+    read : cond (is_slot slot) (Some (event_in slot)) None ≡ cond (is_slot part) (Some (event_in part)) None
+    read = rw (is, front_slot part, front_event part)
 
-  -- both were passed: a state that represents the year with the event is the next state
-  pub next : is_slot part ≡ true → admissible (progress_of p) (event_in part) ≡ true → (q : State) → Represents q (after (event_in part) (progress_of p))
-      → Entered journal (j + 1) q
-  next s t q represents =
-      rw (add-one j)
-      (record {
-        setup = u.setup;
-        enters = (and-eq-true_iff (enters_up_to journal j) (enters_at journal j)).1 (u.enters, entering ∙ and-true s t);
-        stands = represents.0 ∙ ap (λ (e : Event). after e (progress_of p)) (ap event_in rest) ∙ ap (after (event_in (drop (slot_place j) journal))) u.stands;
-        consistent = represents.1;
-      })
+    -- it is not in the one form
+    pub no-slot : (n : ℕ) → j < n → None ≡ cond (is_slot slot) (Some (event_in slot)) None → None ≡ year_of (entered journal n)
+    no-slot n l h = let f = from-none (is_slot part) (event_in part) (h ∙ read) in stopped n l (rw f)
+
+    module _ (e : Event) (h : Some e ≡ cond (is_slot slot) (Some (event_in slot)) None) where
+      event : (is_slot part ≡ true) × (e ≡ event_in part)
+      event = from-cond (is_slot part) (event_in part) e (h ∙ read)
+
+      -- its event is not admissible
+      pub no-event : (n : ℕ) → j < n → admissible p e ≡ false → None ≡ year_of (entered journal n)
+      no-event n l f = stopped n l (rw (event.0, ← event.1, f))
+
+      -- its event may be entered, and then it is one of those entered
+      pub may-enter : admissible p e ≡ true → MayEnter e p
+      may-enter a = record { setup = rw (u.stands, replay-setup (setup_in journal) (events_in journal j)) u.setup; admitted = a }
+
+      pub next : admissible p e ≡ true → Entered journal (j + 1) (after e p)
+      next a =
+          rw (add-one j)
+          (record {
+            setup = u.setup;
+            enters = (and-eq-true_iff (enters_up_to journal j) (enters_at journal j)).1 (u.enters, entering ∙ rw (event.0, ← event.1) a);
+            stands = rw (event.1, u.stands);
+          })

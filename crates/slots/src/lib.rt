@@ -1,11 +1,11 @@
 // The events of a journal's slots, entered one after another.
 #![tactic(auto)]
 
-ghost use Rattle.std.specs.Prelude.{◌≤◌};
-ghost use Rattle.slots.specs.Scanned.{ScannedAs, Entered, entered};
+ghost use Rattle.std.specs.Prelude.{◌≡◌, ◌≤◌};
+ghost use Rattle.slots.specs.Scanned.{year_of, Entered, entered};
 
 use admission::is_admissible;
-use event_decoder::{event_at, is_slot};
+use event_decoder::read_slot;
 use journal::JOURNAL_SIZE;
 use progress::Progress;
 
@@ -13,15 +13,12 @@ use progress::Progress;
 // or its event could not be entered then.
 pub fn enter_slots(journal: &[u8; JOURNAL_SIZE], count: usize, first: Progress) -> Option<Progress>
     requires { (count ≤ 64) × Entered journal.now 0 first }
-    ensures { ScannedAs result (entered journal.now count) }
+    ensures { result ≡ year_of (entered journal.now count) }
 {
+    let (slots, _) = journal[32..].as_chunks::<8>();
     let mut p = first;
-    for j in 0..count {
-        let slot = &journal[32 + 8 * j..];
-        if !is_slot(slot) {
-            return None;
-        }
-        let e = event_at(slot);
+    for slot in &slots[..count] {
+        let e = read_slot(slot)?;
         if !is_admissible(&p, e) {
             return None;
         }

@@ -1,24 +1,19 @@
 // The status.
 ghost use Rattle.std.specs.Prelude.{◌≡◌};
 ghost use Rattle.year.specs.Status.{status};
-ghost use Rattle.progress.specs.State.{progress_of, Consistent};
 
 use crate::verdict::verdict;
 use engines::summary::figures_of;
 use progress::Progress;
-use year::{Pair, Status};
+use year::Status;
 
 // The calculator's status, at resolution 1,024.
 pub fn status_of(p: &Progress) -> Status
-    requires { Consistent p.now }
-    ensures { result ≡ status 1024 (progress_of p.now) }
+    ensures { result ≡ status 1024 p.now }
 {
     Status {
         n: p.engines.len() as u32,
         verdict: u8::from(verdict(p)),
-        figures: Pair {
-            hcnox: figures_of(p.figures.hcnox),
-            co: figures_of(p.figures.co),
-        },
+        figures: p.figures.map(figures_of),
     }
 }

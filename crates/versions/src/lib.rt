@@ -7,18 +7,16 @@ ghost use Rattle.journal.specs.Read.{events_in};
 ghost use Rattle.journal.specs.Acceptance.{is_version};
 
 use buffers::little_endian::number16;
-use journal::JOURNAL_SIZE;
+use journal::{DELETION_VERSION, FIRST_VERSION, JOURNAL_SIZE, VERSION_PLACE, kind, slots_in};
 
-// Whether one of the first slots holds a deletion ("strike"), kind 5. It looks at all of them, with no branch: an early exit is slower.
+// Whether one of the first slots holds a deletion ("strike"). It looks at all of them, with no branch: an early exit is slower.
 fn has_deletion(journal: &[u8; JOURNAL_SIZE], count: usize) -> bool
     requires { count ≤ 64 }
     ensures { result ≡ has_deletion (events_in journal.now count) }
 {
-    let mut found = false;
-    for j in 0..count {
-        found |= journal[32 + 8 * j] == 5;
-    }
-    found
+    slots_in(journal)[..count]
+        .iter()
+        .fold(false, |found, slot| found | (slot[0] == kind::DELETION))
 }
 
 // Whether the version in bytes 3 and 4 is 2 if there is a strike among the events, and 1 if not.
@@ -27,10 +25,10 @@ pub fn is_version(journal: &[u8; JOURNAL_SIZE], count: usize) -> bool
     requires { count ≤ 64 }
     ensures { result ≡ is_version journal.now count }
 {
-    let version = number16(journal, 3);
-    if has_deletion(journal, count) {
-        version == 2
+    let version = if has_deletion(journal, count) {
+        DELETION_VERSION
     } else {
-        version == 1
-    }
+        FIRST_VERSION
+    };
+    number16(journal, VERSION_PLACE) == u32::from(version)
 }

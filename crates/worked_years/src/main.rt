@@ -2,7 +2,7 @@
 // which works from documents 01 and 02 alone and describes the line format.
 #![tactic(auto)]
 
-use crate::work::{first_year, obey};
+use crate::work::obey;
 use std::io::{self, BufRead, BufReader, BufWriter, Write};
 
 mod line;
@@ -11,9 +11,9 @@ mod work;
 fn main(rt: HostRuntime) -> anyhow::Result<()> {
     let alloc = rt.alloc();
     let mut out = BufWriter::new(alloc, io::writer(&rt))?;
-    let mut year = first_year();
+    let mut year = None;
     for line in BufReader::new(alloc, rt.reader())?.lines(alloc) {
-        year = obey(&mut out, alloc, year, &line?)?;
+        obey(&mut out, alloc, &mut year, &line?)?;
     }
     out.flush()?;
     Ok(())

@@ -1,9 +1,7 @@
-// The year after the lines so far. An event that could not be entered leaves it unchanged.
-ghost use Rattle.std.specs.Prelude.{IfOk};
-ghost use Rattle.progress.specs.State.{Consistent};
-
+// A year, line by line. An event that could not be entered leaves it unchanged.
 use crate::line::Line;
 use admission::is_admissible;
+use anyhow::Context;
 use engines::rework::rework;
 use engines::summary::figures_of;
 use progress::Progress;
@@ -12,29 +10,16 @@ use std::alloc::Global;
 use std::io::{self, Write};
 use test_lines::shown::Shown;
 use verdicts::status::status_of;
-use year::{Event, Setup};
+use year::Event;
 
-// The year before the first setup of the input.
-pub fn first_year() -> Progress
-    ensures { Consistent result }
-{
-    Progress::start(Setup::from([1, 1, 10, 10, 0, 0, 0, 0]))
-}
-
-fn enter(mut year: Progress, event: Event) -> Progress
-    requires { Consistent year }
-    ensures { Consistent result }
-{
-    if is_admissible(&year, event) {
+fn enter(year: &mut Progress, event: Event) {
+    if setup_in_range(year.setup) && is_admissible(year, event) {
         year.enter(event);
     }
-    year
 }
 
 // Prints how many events were entered, the status at 1,024, and the figures of both pollutants recomputed at `resolution`, or at 8,192 if that is less.
-fn print_year<W: Write>(out: &mut W, year: &Progress, resolution: u32) -> io::Result<()>
-    requires { Consistent year.now }
-{
+fn print_year<W: Write>(out: &mut W, year: &Progress, resolution: u32) -> io::Result<()> {
     let again = rework(&year.engines, u64::from(resolution).min(8192));
     writeln!(
         out,
@@ -46,31 +31,26 @@ fn print_year<W: Write>(out: &mut W, year: &Progress, resolution: u32) -> io::Re
     )
 }
 
-// The year after a line.
+// Does what a line asks for, on the year that the last setup began.
 pub fn obey<W: Write>(
     out: &mut W,
     alloc: Global,
-    year: Progress,
+    year: &mut Option<Progress>,
     line: &str,
-) -> anyhow::Result<Progress>
-    requires { Consistent year }
-    ensures { IfOk result Consistent }
-{
+) -> anyhow::Result<()> {
     if let Some(words) = line.strip_prefix("T ") {
         write!(out, "{words}")?;
-        return Ok(year);
+        return Ok(());
     }
     match Line::parse(alloc, line)? {
         Line::End => writeln!(out)?,
         Line::Number(number) => write!(out, " {number}")?,
-        Line::Begin(setup) => {
-            if setup_in_range(setup) {
-                return Ok(Progress::start(setup));
-            }
-            writeln!(out, "no year")?;
+        Line::Begin(setup) if setup_in_range(setup) => *year = Some(Progress::start(setup)),
+        Line::Begin(_) => writeln!(out, "no year")?,
+        Line::Enter(event) => enter(year.as_mut().context("no year")?, event),
+        Line::Figures(resolution) => {
+            print_year(out, year.as_ref().context("no year")?, resolution)?
         }
-        Line::Enter(event) => return Ok(enter(year, event)),
-        Line::Figures(resolution) => print_year(out, &year, resolution)?,
     }
-    Ok(year)
+    Ok(())
 }

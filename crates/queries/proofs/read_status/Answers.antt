@@ -13,5 +13,5 @@ returns-in_err-p c =
 pub returns : goal.returns
 returns c =
     let h = c.in_ok-p.ensures in
-    let a = ap Ok c.status_of.ensures ∙ status_answer c.args.journal.now c.in_ok-p.p.now h.year h.refusal in
+    let a = ap Ok c.status_of.ensures ∙ status_answer c.args.journal.now c.in_ok-p.p h.year h.refusal in
     record { answer = a; outcome = told (Ask ReadStatus) c.args.journal.now _ a }

@@ -1,6 +1,6 @@
 -- A test that fails shows a part that no accepted journal has; if none fails, the events decide.
-use mathlib.Core.Path.{subst}
-use Rattle.slots.specs.Scanned.{ScannedAs}
+use mathlib.Core.Path.{ap, ◌∙◌}
+use Rattle.slots.specs.Scanned.{year_of}
 use Rattle.scan.proofs.Whole.{too_many, other-bytes, by-events}
 use Rattle.scan.proofs.scan_bytes.Goals as goal
 
@@ -17,4 +17,4 @@ returns c =
     let same =
     by-events _ c.told-journal c.is_header-header.result c.is_version-version.result c.is_zero-unused.result c.is_header-header.ensures
     c.is_version-version.ensures c.is_zero-unused.ensures c.if-count-gt-SLOTS.false c.if-not-header-version.false in
-    subst (ScannedAs c.scan_events.result) same c.scan_events.ensures
+    c.scan_events.ensures ∙ ap year_of same

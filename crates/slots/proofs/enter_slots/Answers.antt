@@ -1,23 +1,30 @@
 -- A slot that passes its tests is entered; at the first that does not, there is no year.
 use mathlib.Core.Path.{sym, ◌∙◌}
 use Rattle.std.proofs.Common.{arith}
-use Rattle.slots.proofs.Entering.{refused-slot, refused-event, next, finished}
+use Rattle.slots.proofs.Entering.{all, slot-at, no-slot, no-event, may-enter, next, finished}
 use Rattle.slots.proofs.enter_slots.Goals as goal
 
-pub returns-then-not-is_slot : goal.returns-then-not-is_slot
-returns-then-not-is_slot c =
-    refused-slot c.told-journal c.loop-j.invariant c.args.count c.loop-j-test.true (sym c.is_slot.ensures ∙ c.if-not-is_slot.true)
+pub returns-in_err-e : goal.returns-in_err-e
+returns-in_err-e c =
+    let at = slot-at c.args.journal.now c.told-journal c.args.count c.requires.0 _ c.as_chunks.ensures.front c.loop-slot.slot-index c.loop-slot-test.true in
+    c.from_residual.ensures ∙ no-slot c.loop-slot.invariant _ at.1 c.args.count at.0 (sym c.in_err-e.was ∙ c.read_slot.ensures)
 
 pub returns-then-not-is_admissible : goal.returns-then-not-is_admissible
 returns-then-not-is_admissible c =
-    let admitted = rw c.event_at-e.ensures at c.is_admissible.ensures in
-    refused-event c.told-journal c.loop-j.invariant c.args.count c.loop-j-test.true (sym admitted ∙ c.if-not-is_admissible.true)
+    let at = slot-at c.args.journal.now c.told-journal c.args.count c.requires.0 _ c.as_chunks.ensures.front c.loop-slot.slot-index c.loop-slot-test.true in
+    no-event c.loop-slot.invariant _ at.1 c.in_ok-e.e (sym c.in_ok-e.was ∙ c.read_slot.ensures) c.args.count at.0 (sym c.is_admissible.ensures ∙ c.if-not-is_admissible.true)
 
-pub loop-j-preserved : goal.loop-j-preserved
-loop-j-preserved c =
-    let admitted = rw c.event_at-e.ensures at c.is_admissible.ensures in
-    let year = rw c.event_at-e.ensures at c.enter.ensures.year in
-    next c.told-journal c.loop-j.invariant (sym c.is_slot.ensures ∙ c.if-not-is_slot.false) (sym admitted ∙ c.if-not-is_admissible.false) c.enter.new.self (year, c.enter.ensures.consistent)
+pub enter-requires : goal.enter-requires
+enter-requires c =
+    let at = slot-at c.args.journal.now c.told-journal c.args.count c.requires.0 _ c.as_chunks.ensures.front c.loop-slot.slot-index c.loop-slot-test.true in
+    may-enter c.loop-slot.invariant _ at.1 c.in_ok-e.e (sym c.in_ok-e.was ∙ c.read_slot.ensures) (sym c.is_admissible.ensures ∙ c.if-not-is_admissible.false)
+
+pub loop-slot-preserved : goal.loop-slot-preserved
+loop-slot-preserved c =
+    let at = slot-at c.args.journal.now c.told-journal c.args.count c.requires.0 _ c.as_chunks.ensures.front c.loop-slot.slot-index c.loop-slot-test.true in
+    rw c.enter.ensures (next c.loop-slot.invariant _ at.1 c.in_ok-e.e (sym c.in_ok-e.was ∙ c.read_slot.ensures) (sym c.is_admissible.ensures ∙ c.if-not-is_admissible.false))
 
 pub returns : goal.returns
-returns c = finished _ _ c.loop-j.j c.loop-j.p (omega arith) (omega arith) c.loop-j.invariant
+returns c =
+    let many = all c.args.journal.now c.told-journal c.args.count c.requires.0 _ c.as_chunks.ensures.front in
+    finished _ _ c.loop-slot.slot-index c.loop-slot.p (omega (arith, many, c.loop-slot.auto.slot-index-end)) (omega (arith, many, c.loop-slot-test.false)) c.loop-slot.invariant

@@ -1,6 +1,6 @@
--- The slots before j were entered, and the state represents their events.
+-- The slots before this one were entered, and the progress is that of their events.
 use Rattle.slots.specs.Scanned.{Entered}
 use Rattle.slots.proofs.enter_slots.Given as goal
 
-abbrev pub invariant-loop-j : goal.invariant-loop-j
-invariant-loop-j l = Entered l.journal l.j l.p
+abbrev pub invariant-loop-slot : goal.invariant-loop-slot
+invariant-loop-slot l = Entered l.journal l.slot-index l.p

@@ -1,11 +1,13 @@
 use Rattle.progress.proofs.Steps.{amended, next-period, declared}
 use Rattle.progress.proofs.Progress.enter.Goals as goal
 
-pub returns-in-Amendment-clause-consistent : goal.returns-in-Amendment-clause-consistent
-returns-in-Amendment-clause-consistent c = (amended c.args.self.now c.requires.0 c.in-Amendment.standards (rw c.in-Amendment.is at c.requires.1)).1
+pub invariant_of-self : goal.invariant_of-self
+invariant_of-self c = amended c.self.inside c.self.invariant c.in-Amendment.standards (rw (c.self.view_is, ← c.in-Amendment.is) c.requires)
 
-pub returns-in-NextPeriod-clause-consistent : goal.returns-in-NextPeriod-clause-consistent
-returns-in-NextPeriod-clause-consistent c = (next-period c.args.self.now c.requires.0 (rw c.in-NextPeriod.is at c.requires.1)).1
+pub invariant_of-self-in-NextPeriod : goal.invariant_of-self-in-NextPeriod
+invariant_of-self-in-NextPeriod c =
+    next-period c.self-in-NextPeriod.inside c.self-in-NextPeriod.invariant (rw (c.self-in-NextPeriod.view_is, ← c.in-NextPeriod.is) c.requires)
 
-pub returns-in-Declaration-clause-consistent : goal.returns-in-Declaration-clause-consistent
-returns-in-Declaration-clause-consistent c = (declared c.args.self.now c.requires.0 (rw c.in-Declaration.is at c.requires.1)).1
+pub invariant_of-self-in-Declaration : goal.invariant_of-self-in-Declaration
+invariant_of-self-in-Declaration c =
+    declared c.self-in-Declaration.inside c.self-in-Declaration.invariant (rw (c.self-in-Declaration.view_is, ← c.in-Declaration.is) c.requires)

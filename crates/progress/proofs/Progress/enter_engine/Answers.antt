@@ -5,19 +5,18 @@ use Rattle.progress.proofs.Steps.{engine}
 use Rattle.progress.proofs.Progress.enter_engine.Goals as goal
 
 pub add_engine-requires : goal.add_engine-requires
-add_engine-requires c = (room c.args.self.now c.requires.0 c.args.number c.args.readings c.args.results c.requires.1).engine
+add_engine-requires c = (room c.self.inside c.self.invariant c.args.number c.args.readings c.args.results (rw c.self.view_is c.requires)).engine
 
 pub overflow_add-self-2 : goal.overflow_add-self-2
-overflow_add-self-2 c = omega (arith, (room c.args.self.now c.requires.0 c.args.number c.args.readings c.args.results c.requires.1).current)
+overflow_add-self-2 c =
+    omega (arith, (room c.self.inside c.self.invariant c.args.number c.args.readings c.args.results (rw c.self.view_is c.requires)).current)
 
-pub with-self-requires : goal.with-self-requires
-with-self-requires c = (room c.args.self.now c.requires.0 c.args.number c.args.readings c.args.results c.requires.1).figures Hcnox
+pub add_tests-requires : goal.add_tests-requires
+add_tests-requires c =
+    let r = room c.self.inside c.self.invariant c.args.number c.args.readings c.args.results (rw c.self.view_is c.requires) in
+    record { hcnox = rw c.tests_under.ensures.hcnox (r.figures Hcnox); co = rw c.tests_under.ensures.co (r.figures Co) }
 
-pub with-self-requires-2 : goal.with-self-requires-2
-with-self-requires-2 c = (room c.args.self.now c.requires.0 c.args.number c.args.readings c.args.results c.requires.1).figures Co
-
-pub returns-clause-consistent : goal.returns-clause-consistent
-returns-clause-consistent c =
-    let a = c.args in
-    (engine a.self.now c.requires.0 a.number a.readings a.results c.add_engine.new.e (record { hcnox = c.with-self.result; co = c.with-self-2.result }) c.requires.1
-    c.add_engine.ensures c.with-self.ensures c.with-self-2.ensures).1
+pub invariant_of-self : goal.invariant_of-self
+invariant_of-self c =
+    engine c.self.inside c.self.invariant c.args.number c.args.readings c.args.results c.add_engine.new.e c.add_tests.new.figures (rw c.self.view_is c.requires)
+    c.add_engine.ensures (rw c.tests_under.ensures.hcnox at c.add_tests.ensures.hcnox) (rw c.tests_under.ensures.co at c.add_tests.ensures.co)
