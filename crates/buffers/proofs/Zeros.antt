@@ -9,6 +9,9 @@ use Rattle.buffers.specs.Bytes.{is_zero}
 or_zero : (a b : ℕ) → nat_eq (bit_or a b) 0 ≡ (nat_eq a 0 && nat_eq 0 b)
 or_zero a b = grind (arith, le_or_l, le_or_r)
 
-pub joined_zero : (a : ℕ) (xs : List ℕ) → nat_eq (fold bit_or a xs) 0 ≡ (nat_eq a 0 && is_zero xs)
+joined_zero : (a : ℕ) (xs : List ℕ) → nat_eq (fold bit_or a xs) 0 ≡ (nat_eq a 0 && is_zero xs)
 joined_zero a [] = rw and-true
 joined_zero a (x ∷ xs) = rw (joined_zero (bit_or a x) xs, or_zero a x, and_assoc)
+
+pub joined_is_zero : (xs : List ℕ) → nat_eq (fold bit_or 0 xs) 0 ≡ is_zero xs
+joined_is_zero xs = joined_zero 0 xs

@@ -13,10 +13,10 @@ use Rattle.figures.specs.declared.Running.{Running}
 use Rattle.figures.specs.Running.{running}
 
 module _ (k : ℕ) (f : Running) where
-  pub size-shown : (h : List Test) → f ≡ running k h → sample_size f.sums.n f.sums.total f.standard f.sums.variation ≡ sample_size_of h
+  pub size_shown : (h : List Test) → f ≡ running k h → sample_size f.sums.n f.sums.total f.standard f.sums.variation ≡ sample_size_of h
   unfolding running sample_size
-  size-shown [] e = rw e
-  size-shown (x ∷ h) e = rw e
+  size_shown [] e = rw e
+  size_shown (x ∷ h) e = rw e
 
   pub shown : (h : List Test) (size : Option ℕ) → f ≡ running k h
       → record {
@@ -32,7 +32,7 @@ module _ (k : ℕ) (f : Running) where
   shown (x ∷ []) size e = rw (e, deviation-early k (x ∷ []) (omega arith), add-zero)
   shown (x ∷ y ∷ h) size e = rw e
 
-  pub size-reached : (h : List Test) → f ≡ running k h → size_reached f.sums.n f.sums.total f.standard f.sums.variation ≡ size_reached_of h
+  pub size_was_reached : (h : List Test) → f ≡ running k h → size_reached f.sums.n f.sums.total f.standard f.sums.variation ≡ size_reached_of h
   unfolding running size_reached
-  size-reached [] e = rw e
-  size-reached (x ∷ h) e = rw e
+  size_was_reached [] e = rw e
+  size_was_reached (x ∷ h) e = rw e

@@ -12,16 +12,15 @@ use figures::Running;
 use statistics::Test;
 use year::{Pair, Tested};
 
-// Adds an engine, as each pollutant sees it, to both figures: whatever histories the old ones are of, the new ones are of those with this engine added. It changes
-// them in place, since copies of all figures at each engine make marks a tenth slower, and a scan of many strikes a fifth.
+// Adds an engine, as each pollutant sees it, to both figures: whatever histories the old ones are of, the new ones are of those with this engine added.
 pub fn add_tests(figures: &mut Pair<Running>, tests: Pair<Test>, resolution: u64)
     requires hcnox { RunningInRange resolution figures.old.hcnox tests.hcnox.result }
     requires co { RunningInRange resolution figures.old.co tests.co.result }
     ensures hcnox { (h : List Test) → figures.old.hcnox ≡ running resolution h → figures.new.hcnox ≡ running resolution (tests.hcnox ∷ h) }
     ensures co { (h : List Test) → figures.old.co ≡ running resolution h → figures.new.co ≡ running resolution (tests.co ∷ h) }
 {
-    figures.hcnox = figures.hcnox.with(tests.hcnox, resolution);
-    figures.co = figures.co.with(tests.co, resolution);
+    figures.hcnox.add(tests.hcnox, resolution);
+    figures.co.add(tests.co, resolution);
 }
 
 // The figures of both pollutants for engines in order of entry. One loop for both takes half the time of two.

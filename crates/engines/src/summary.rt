@@ -10,6 +10,7 @@ use sample_size::{sample_size_of, size_reached};
 use year::Figures;
 
 // N of one pollutant. Before engine 2 there is none, which `sample_size_of` sees to, so there is no test here.
+#[tactic(auto, using(crate::proofs::Shown::size_shown))]
 pub fn size_of(f: Running) -> Option<u64>
     requires { Worked f }
     ensures { (k : ℕ) (h : List Test) → f ≡ running k h → result ≡ sample_size_of h }
@@ -18,6 +19,7 @@ pub fn size_of(f: Running) -> Option<u64>
 }
 
 // The figures of a status, with this N. Before engine 2 they are 0, except S.
+#[tactic(auto, using(crate::proofs::Shown::shown))]
 pub fn with_size(f: Running, size: Option<u64>) -> Figures
     ensures { (k : ℕ) (h : List Test) → f ≡ running k h → result ≡ figures k size h }
 {
@@ -40,6 +42,7 @@ pub fn figures_of(f: Running) -> Figures
 }
 
 // The stop test of one pollutant.
+#[tactic(auto, using(crate::proofs::Shown::size_was_reached))]
 pub fn reached(f: Running) -> bool
     requires { Worked f }
     ensures { (k : ℕ) (h : List Test) → f ≡ running k h → result ≡ size_reached_of h }

@@ -86,10 +86,11 @@ module _ (k : ℕ) (f : Running) (x : ℕ) (r : RunningInRange k f x) where
   pub one_more : HistoryInRange 40 (record { result = x; standard = 0 } ∷ r.history)
   one_more = record { few = omega (arith, r.in_range.few); tests = (r.result, omega arith, r.in_range.tests) }
 
-  module _ (s : Sums) (two : 2 ≤ s.n) (es : (t : ℕ) → s ≡ sums (record { result = x; standard = t } ∷ r.history)) where
+  -- from engine 2 on, with the sums that are those of any history with this engine, if the old ones are of that history
+  module _ (s : Sums) (two : 2 ≤ s.n) (es : (h : List Test) (t : ℕ) → f.sums ≡ sums h → s ≡ sums (record { result = x; standard = t } ∷ h)) where
     pub deviation-fits : DeviationInRange k s.n s.variation
     deviation-fits =
-        let e = es 0 in
+        let e = es r.history 0 (running-sums k f r.history r.worked) in
         rw e (deviation-in-range (record { result = x; standard = 0 } ∷ r.history) one_more k r.fine (rw e at two))
 
     module _ (d : Deviation) (ed : d ≡ deviation k s.n s.variation) where
@@ -119,5 +120,5 @@ size_of : (k : ℕ) (f : Running) (h : List Test) → f ≡ running k h → Hist
 unfolding running
 size_of k f h e r = rw e (size-in-range h r (newest_standard h) (newest-le h r.tests))
 
-pub running-size : (f : Running) → Worked f → SizeInRange f.sums.n f.sums.total f.standard f.sums.variation
-running-size f w = size_of w.resolution f w.history w.worked w.in_range
+pub running_size : (f : Running) → Worked f → SizeInRange f.sums.n f.sums.total f.standard f.sums.variation
+running_size f w = size_of w.resolution f w.history w.worked w.in_range

@@ -21,8 +21,8 @@ use Rattle.figures.specs.Running.{running}
 use Rattle.engines.proofs.Newest.{newest_first}
 
 -- there are at most forty engines in range, and so at most eighty marks
-pub engines-few : (xs : List Tested) → HistoryInRange 40 (history Hcnox (reverse xs)) → length xs ≤ 40
-engines-few xs r = omega (arith, r.few, history-length Hcnox (reverse xs), length-reverse xs)
+pub engines_few : (xs : List Tested) → HistoryInRange 40 (history Hcnox (reverse xs)) → length xs ≤ 40
+engines_few xs r = omega (arith, r.few, history-length Hcnox (reverse xs), length-reverse xs)
 
 -- an engine as a pollutant sees it
 abbrev pub test_of : Pollutant → Tested → Test
@@ -33,8 +33,8 @@ module _ (k : ℕ) where
   bytes_of xs = map mark_byte (printed_marks judged k (reverse xs))
 
   -- two for each engine
-  pub bytes-length : (xs : List Tested) → length (bytes_of xs) ≡ 2 * length xs
-  bytes-length xs = length-map (printed_marks judged k (reverse xs)) mark_byte ∙ printed-length judged k (reverse xs) ∙ ap (λ (n : ℕ). 2 * n) (length-reverse xs)
+  pub bytes_length : (xs : List Tested) → length (bytes_of xs) ≡ 2 * length xs
+  bytes_length xs = length-map (printed_marks judged k (reverse xs)) mark_byte ∙ printed-length judged k (reverse xs) ∙ ap (λ (n : ℕ). 2 * n) (length-reverse xs)
 
   marked : (xs : List Tested) (x : Tested)
       → map mark_byte (printed_marks judged k (x ∷ xs))

@@ -19,6 +19,7 @@ use marking::marks::mark_byte;
 use year::{MOST_MARKS, Pair, Tested};
 
 // The marks of engines in order of entry, HC+NOx then CO, at any resolution.
+#[tactic(auto, using(crate::proofs::Marked::engines_few))]
 fn marks_of(engines: &[Tested], resolution: u64) -> ArrayVec<u8, MOST_MARKS>
     requires histories { (q : Pollutant) → HistoryInRange 40 (history q (reverse engines.now)) }
     requires fine { resolution ≤ 8192 }
@@ -35,6 +36,7 @@ fn marks_of(engines: &[Tested], resolution: u64) -> ArrayVec<u8, MOST_MARKS>
 }
 
 // Writes the marks of all engines at the front of a lent buffer. The rest of the buffer is unchanged.
+#[tactic(auto, using(crate::proofs::Marked::bytes_length))]
 pub fn print_marks(engines: &Engines, resolution: u64, out: &mut [u8])
     requires { EnginesInRange engines.now resolution × (2 * array_vec_len engines.now ≤ length out.old) }
     ensures { out.new ≡ put out.old 0 (map mark_byte (printed_marks judged resolution (tested engines.now))) }

@@ -57,6 +57,7 @@ fn with_factor(factor: Factor, mean: u64) -> u64
 }
 
 // The result of an engine's readings for one pollutant.
+#[tactic(auto, using(crate::proofs::Room::mean_le))]
 pub fn result_of(factor: Factor, readings: &[u32]) -> u64
     requires { (1 ≤ length readings.now) × (length readings.now ≤ 3) }
     ensures { result ≡ result_of factor readings.now }

@@ -76,18 +76,18 @@ module _ (n s t v : ℕ) where
       sym (rw whole at (quotient-test (n - 1) (10000 * w) a (omega arith))) ∙ as-defined w a h l ew ea
 
 -- The products fit 64 bits.
-pub numerator_fits : (n v : ℕ) → n ≤ 40 → v ≤ n * n * 100000000
-    → (t95 n * t95 n ≤ 398161) × (t95 n * t95 n * v ≤ 63705760000000000) × (t95 n * t95 n * v * n ≤ 2548230400000000000)
-numerator_fits n v few h = (tt2, ttv, mul-le-mul ttv few)
-  where
-    tt2 : t95 n * t95 n ≤ 398161
-    tt2 = mul-le-mul (t95-le n) (t95-le n)
+pub square_fits : (n : ℕ) → t95 n * t95 n ≤ 398161
+square_fits n = mul-le-mul (t95-le n) (t95-le n)
 
+pub numerator_fits : (n v : ℕ) → n ≤ 40 → v ≤ n * n * 100000000
+    → (t95 n * t95 n * v ≤ 63705760000000000) × (t95 n * t95 n * v * n ≤ 2548230400000000000)
+numerator_fits n v few h = (ttv, mul-le-mul ttv few)
+  where
     small : v ≤ 160000000000
     small = omega (arith, mul-le-mul few few)
 
     ttv : t95 n * t95 n * v ≤ 63705760000000000
-    ttv = mul-le-mul tt2 small
+    ttv = mul-le-mul (square_fits n) small
 
 -- what a sample size, and what the stop test, is found to be
 pub ruleset sizes = (absent-few, absent-even, in-tenths)

@@ -12,7 +12,7 @@ use crate::coefficient::t95;
 use spread::Sums;
 
 // The numerator of N − 1: t95² × V × n.
-#[tactic(auto, using(crate::proofs::Sizes::numerator_fits))]
+#[tactic(auto, using(crate::proofs::Sizes::square_fits, crate::proofs::Sizes::numerator_fits))]
 fn numerator(n: u64, variation: u64) -> u64
     requires { (2 ≤ n) × (n ≤ 40) × (variation ≤ n * n * 100000000) }
     ensures { (result ≡ t95 n * t95 n * variation * n) × (result ≤ 2548230400000000000) }

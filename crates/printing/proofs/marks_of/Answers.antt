@@ -2,7 +2,7 @@ use Rattle.std.proofs.Common.{arith}
 use Rattle.std.proofs.lemmas.List.{take_more}
 use Rattle.year.specs.Setup.{Hcnox, Co}
 use Rattle.engines.proofs.Newest.{room}
-use Rattle.printing.proofs.Marked.{engines-few, next}
+use Rattle.printing.proofs.Marked.{next}
 use Rattle.printing.proofs.marks_of.Goals as goal
 
 pub add_tests-requires-clause-hcnox : goal.add_tests-requires-clause-hcnox
@@ -20,12 +20,6 @@ add_tests-requires-clause-co c =
     rw c.tests.ensures.co
     (room Co xs c.args.resolution i _ c.loop-x.figures.co (take_more xs i _ c.loop-x-test.true) c.requires.fine
     (c.requires.histories Co) c.loop-x.invariant.co)
-
-pub push-requires : goal.push-requires
-push-requires c = omega (arith, engines-few c.args.engines.now (c.requires.histories Hcnox))
-
-pub push-requires-in-loop-x : goal.push-requires-in-loop-x
-push-requires-in-loop-x c = omega (arith, engines-few c.args.engines.now (c.requires.histories Hcnox))
 
 pub loop-x-preserved : goal.loop-x-preserved
 loop-x-preserved c =
