@@ -8,11 +8,15 @@ use Rattle.buffers.specs.Bytes.{put}
 use Rattle.buffers.proofs.Lists.{take_put}
 use Rattle.journal.specs.Read.{read_journal}
 use Rattle.reference.specs.Call.{Marks, Write, Ask}
-use Rattle.reference.specs.Answers.{refusal_on, out_bytes, out_after, out_part, output_outcome}
+use Rattle.reference.specs.Answers.{refusal_on, journal_after, out_bytes, out_after, out_part, output_outcome}
 use Rattle.reference.specs.declared.OutputOutcome.{OutputOutcome}
 use Rattle.reference.proofs.Given.{accepted-gives, refused-gives}
-use Rattle.reference.proofs.Demand1.{out-fits}
+use Rattle.reference.proofs.Demand1.{demand-1, out-fits}
 use Rattle.protocol.specs.Reply.{refusal_reply, marks_reply, query_reply}
+
+-- a marks call leaves the journal unchanged
+pub marks_keep : (journal : List ℕ) → journal ≡ journal_after (Ask (Write Marks 80)) journal
+marks_keep journal = sym (demand-1.query_kept (Write Marks 80) journal)
 
 module _ (journal out : List ℕ) (room : length out ≡ 80) (answer : OutputOutcome) (is : answer ≡ output_outcome Marks journal out) where
   abbrev number : ℕ

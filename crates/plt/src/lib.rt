@@ -13,6 +13,7 @@ use commands::reply;
 use entries::enter_engine;
 use protocol::REPLY_SIZE;
 use queries::{read_status, write_marks};
+use reference::OutputOutcome;
 
 // A key line without its newline: puts its reply at the front of the output and returns its length. With under 96 bytes of output, does nothing and returns 0.
 #[tactic(auto, unfolding(exports::specs::Exports::reply_count, exports::specs::Exports::reply_left, exports::specs::Exports::line_left))]
@@ -73,14 +74,7 @@ pub extern "C" fn plt_marks(journal: &[u8], out: &mut [u8], written: &mut usize)
     ensures out_after { out.new ≡ out_after Marks journal.now out.old }
     ensures written_after { written.new ≡ (output_outcome Marks journal.now out.old).length }
 {
-    match write_marks(journal, out) {
-        Ok(count) => {
-            *written = count;
-            0
-        }
-        Err(refusal) => {
-            *written = 0;
-            u8::from(refusal)
-        }
-    }
+    let outcome = OutputOutcome::from(write_marks(journal, out));
+    *written = outcome.length;
+    outcome.refusal
 }
