@@ -9,6 +9,7 @@ ghost use Rattle.ascii.specs.Text.{byte};
 
 use arrayvec::ArrayVec;
 use cumsum::Mark;
+use itoa::Buffer;
 use marking::marks::mark_byte;
 use protocol::REPLY_SIZE;
 use std::marker::Model;
@@ -52,15 +53,14 @@ impl Text {
     }
 
     // A space, and a number in decimal, at most 20 digits.
+    #[tactic(auto, using(crate::proofs::Decimal::spaced_decimal, crate::proofs::Decimal::few_digits))]
     pub fn number(&mut self, n: u64)
         requires { length self.old + 21 ≤ 96 }
         ensures written { self.new ≡ self.old ++ spaced (decimal n) }
         ensures at_most { length self.new ≤ length self.old + 21 }
     {
-        let mut digits = [0u8; 20];
-        let count = io::decimal(n, &mut digits);
         self.put(b" ");
-        self.put(&digits[..count]);
+        self.put(Buffer::new().format(n).as_bytes());
     }
 
     // A space, and a sample size in tenths or '-' for none.
