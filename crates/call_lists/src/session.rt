@@ -3,15 +3,23 @@ ghost use Rattle.std.specs.Prelude.{◌≡◌, ◌≤◌};
 
 use crate::calls::{Call, write_answer};
 use crate::line::Line;
+use journal::JOURNAL_SIZE;
 use queries::{marks, write_marks};
+use reference::OutputOutcome;
 use std::alloc::Global;
 use std::io::{self, Write};
 use test_lines::digested;
 
+// The array's size, sixteen bytes more than a journal's.
+const ROOM: usize = 560;
+
+// The most bytes that a strip is lent.
+const STRIP_ROOM: usize = 100;
+
 // An array of 560 bytes, of which the calls are lent the first `lent`.
 #[derive(Drop)]
 pub struct Session {
-    journal: [u8; 560],
+    journal: [u8; ROOM],
     pub lent: usize,
 }
 
@@ -35,8 +43,8 @@ impl Session {
         ensures { result.lent ≤ 560 }
     {
         Session {
-            journal: [0; 560],
-            lent: 544,
+            journal: [0; ROOM],
+            lent: JOURNAL_SIZE,
         }
     }
 
@@ -50,7 +58,7 @@ impl Session {
             return Ok(());
         }
         match Line::parse(alloc, line)? {
-            Line::Lend(size) => self.lent = size.min(560),
+            Line::Lend(size) => self.lent = size.min(ROOM),
             Line::Clear => self.journal.fill(0),
             Line::Write(place, byte) => self.write(place, byte),
             Line::Strip(size) => self.strip(out, size)?,
@@ -84,13 +92,10 @@ impl Session {
         requires { self.now.lent ≤ 560 }
     {
         let journal = &self.journal[..self.lent];
-        let size = size.min(100);
-        let mut strip = [b'.'; 100];
-        let (refusal, written) = match write_marks(journal, &mut strip[..size]) {
-            Ok(count) => (0, count),
-            Err(refusal) => (u8::from(refusal), 0),
-        };
-        write!(out, "{refusal} {written} |")?;
+        let size = size.min(STRIP_ROOM);
+        let mut strip = [b'.'; STRIP_ROOM];
+        let OutputOutcome { refusal, length } = write_marks(journal, &mut strip[..size]).into();
+        write!(out, "{refusal} {length} |")?;
         out.write_all(&strip)?;
         write!(out, "|")?;
         strip.fill(b'.');

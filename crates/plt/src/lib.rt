@@ -11,6 +11,7 @@ use answers::put_answer;
 use buffers::front::put_front;
 use commands::reply;
 use entries::enter_engine;
+use exports::FIGURE_COUNT;
 use protocol::REPLY_SIZE;
 use queries::{read_status, write_marks};
 use reference::OutputOutcome;
@@ -48,7 +49,7 @@ pub extern "C" fn plt_engine(
     ensures figures_after { figures.new ≡ figures_left (Enter (engine_entry number hcnox.now co.now)) journal.old figures.old }
     ensures journal_after { journal.new ≡ journal_left (Enter (engine_entry number hcnox.now co.now)) journal.old figures.old }
 {
-    if figures.len() < 20 {
+    if figures.len() < FIGURE_COUNT {
         return 255;
     }
     put_answer(figures, enter_engine(journal, number, hcnox, co))
@@ -61,7 +62,7 @@ pub extern "C" fn plt_status(journal: &[u8], figures: &mut [u64]) -> u8
     ensures refusal { result ≡ refusal_given (Ask ReadStatus) journal.now figures.old }
     ensures figures_after { figures.new ≡ figures_left (Ask ReadStatus) journal.now figures.old }
 {
-    if figures.len() < 20 {
+    if figures.len() < FIGURE_COUNT {
         return 255;
     }
     put_answer(figures, read_status(journal))
