@@ -50,5 +50,8 @@ pub fn marks_reply(marks: &[u8]) -> Reply
 pub fn reply_of(given: Result<Reply, Refusal>) -> Reply
     ensures { result ≡ replied given }
 {
-    given.unwrap_or_else(|refusal| refusal_reply(u8::from(refusal)))
+    match given {
+        Ok(reply) => reply,
+        Err(refusal) => refusal_reply(u8::from(refusal)),
+    }
 }
