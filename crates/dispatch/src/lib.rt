@@ -16,6 +16,7 @@ use text::Reply;
 use year::MOST_MARKS;
 
 // "OK" and the marks, or the call's refusal.
+#[tactic(auto, using(crate::proofs::Listing::few_marks, crate::proofs::Listing::front_size, crate::proofs::Listing::marks_replied, crate::proofs::Listing::refusal_replied))]
 fn list_marks(journal: &[u8]) -> Result<Reply, Refusal>
     ensures { replied result ≡ query_reply (Write Marks 80) journal.now }
 {
