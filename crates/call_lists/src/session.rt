@@ -1,6 +1,4 @@
 // A journal, and the lines carried out on it.
-ghost use Rattle.std.specs.Prelude.{◌≡◌, ◌≤◌};
-
 use crate::calls::{Call, write_answer};
 use crate::line::Line;
 use journal::JOURNAL_SIZE;
@@ -8,6 +6,7 @@ use queries::{marks, write_marks};
 use reference::OutputOutcome;
 use std::alloc::Global;
 use std::io::{self, Write};
+use std::marker::Model;
 use test_lines::digested;
 
 // The array's size, sixteen bytes more than a journal's.
@@ -20,7 +19,18 @@ const STRIP_ROOM: usize = 100;
 #[derive(Drop)]
 pub struct Session {
     journal: [u8; ROOM],
-    pub lent: usize,
+    lent: usize,
+}
+
+// A contract sees the bytes that are lent.
+impl Model for Session {
+    ghost use Rattle.std.specs.Prelude.{List, ℕ, ◌≤◌, take};
+
+    ghost Value = { List ℕ };
+
+    ghost view = { λ s. take s.lent s.journal };
+
+    ghost invariant = { λ s. s.lent ≤ 560 };
 }
 
 fn digest(bytes: &[u8]) -> u64 {
@@ -39,9 +49,7 @@ fn hand_back<W: Write>(out: &mut W, journal: &[u8], strip: &mut [u8]) -> io::Res
 }
 
 impl Session {
-    pub fn new() -> Session
-        ensures { result.lent ≤ 560 }
-    {
+    pub fn new() -> Session {
         Session {
             journal: [0; ROOM],
             lent: JOURNAL_SIZE,
@@ -49,10 +57,7 @@ impl Session {
     }
 
     // Carries out a line.
-    pub fn obey<W: Write>(&mut self, out: &mut W, alloc: Global, line: &str) -> anyhow::Result<()>
-        requires { self.old.lent ≤ 560 }
-        ensures { self.new.lent ≤ 560 }
-    {
+    pub fn obey<W: Write>(&mut self, out: &mut W, alloc: Global, line: &str) -> anyhow::Result<()> {
         if line.starts_with('#') {
             writeln!(out, "{line}")?;
             return Ok(());
@@ -67,19 +72,14 @@ impl Session {
         Ok(())
     }
 
-    fn write(&mut self, place: usize, byte: u8)
-        ensures { self.new.lent ≡ self.old.lent }
-    {
+    fn write(&mut self, place: usize, byte: u8) {
         if let Some(b) = self.journal.get_mut(place) {
             *b = byte;
         }
     }
 
     // The answer, and a digest of all 560 bytes.
-    fn call<W: Write>(&mut self, out: &mut W, call: &Call) -> io::Result<()>
-        requires { self.old.lent ≤ 560 }
-        ensures { self.new.lent ≡ self.old.lent }
-    {
+    fn call<W: Write>(&mut self, out: &mut W, call: &Call) -> io::Result<()> {
         let lent = self.lent;
         let answer = call.make(&mut self.journal[..lent]);
         write_answer(out, answer)?;
@@ -88,9 +88,7 @@ impl Session {
 
     // Both forms of the marks, each into an array of dots: the refusal, the length and the whole array; the refusal, the part handed back and a digest of the
     // array; and a digest of the journal.
-    fn strip<W: Write>(&self, out: &mut W, size: usize) -> io::Result<()>
-        requires { self.now.lent ≤ 560 }
-    {
+    fn strip<W: Write>(&self, out: &mut W, size: usize) -> io::Result<()> {
         let journal = &self.journal[..self.lent];
         let size = size.min(STRIP_ROOM);
         let mut strip = [b'.'; STRIP_ROOM];

@@ -16,6 +16,9 @@ use protocol::REPLY_SIZE;
 use queries::{read_status, write_marks};
 use reference::OutputOutcome;
 
+// No refusal: what a call returns that has no room for its figures.
+const TOO_FEW_FIGURES: u8 = 255;
+
 // A key line without its newline: puts its reply at the front of the output and returns its length. With under 96 bytes of output, does nothing and returns 0.
 #[tactic(auto, unfolding(exports::specs::Exports::reply_count, exports::specs::Exports::reply_left, exports::specs::Exports::line_left))]
 #[unsafe(no_mangle)]
@@ -50,7 +53,7 @@ pub extern "C" fn plt_engine(
     ensures journal_after { journal.new ≡ journal_left (Enter (engine_entry number hcnox.now co.now)) journal.old figures.old }
 {
     if figures.len() < FIGURE_COUNT {
-        return 255;
+        return TOO_FEW_FIGURES;
     }
     put_answer(figures, enter_engine(journal, number, hcnox, co))
 }
@@ -63,7 +66,7 @@ pub extern "C" fn plt_status(journal: &[u8], figures: &mut [u64]) -> u8
     ensures figures_after { figures.new ≡ figures_left (Ask ReadStatus) journal.now figures.old }
 {
     if figures.len() < FIGURE_COUNT {
-        return 255;
+        return TOO_FEW_FIGURES;
     }
     put_answer(figures, read_status(journal))
 }
