@@ -11,7 +11,7 @@ import sys
 from glob import glob
 
 # Crates of the kit that may be listed.
-KIT = ['anyhow', 'arrayvec', 'check', 'bytes', 'io']
+KIT = ['anyhow', 'arrayvec', 'check', 'bytes', 'io', 'itoa']
 
 
 def read(path):

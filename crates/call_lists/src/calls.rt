@@ -31,12 +31,6 @@ impl Call {
 
 // The refusal, 0 for none, and the status; a refusal has zeros, '-' marks and no N.
 pub fn write_answer<W: Write>(out: &mut W, answer: Answer) -> io::Result<()> {
-    match answer {
-        Ok(status) => write!(out, "0 {}", Shown(status)),
-        Err(refusal) => write!(
-            out,
-            "{} 0 0 0 0 0 0 0 0 0 - - 0 0 0 0 0 0 0 - -",
-            u8::from(refusal)
-        ),
-    }
+    let refusal = answer.err().map_or(0, u8::from);
+    write!(out, "{refusal} {}", Shown(answer.unwrap_or_default()))
 }

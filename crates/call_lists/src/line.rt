@@ -3,7 +3,7 @@ use crate::calls::Call;
 use anyhow::{Context, bail};
 use reference::Change;
 use std::alloc::Global;
-use test_lines::numbers::numbers;
+use test_lines::numbers::letter_and_numbers;
 use year::{Pair, Setup};
 
 #[derive(Drop)]
@@ -21,8 +21,7 @@ pub enum Line {
 
 impl Line {
     pub fn parse(alloc: Global, line: &str) -> anyhow::Result<Line> {
-        let (letter, rest) = line.split_once(' ').unwrap_or((line, ""));
-        let numbers = numbers(alloc, rest)?;
+        let (letter, numbers) = letter_and_numbers(alloc, line)?;
         Ok(match (letter, numbers.as_slice()) {
             ("B", &[size]) => Line::Lend(size as usize),
             ("N", []) => Line::Clear,

@@ -1,18 +1,36 @@
 // A journal, and the lines carried out on it.
-ghost use Rattle.std.specs.Prelude.{◌≡◌, ◌≤◌};
-
 use crate::calls::{Call, write_answer};
 use crate::line::Line;
+use journal::JOURNAL_SIZE;
 use queries::{marks, write_marks};
+use reference::OutputOutcome;
 use std::alloc::Global;
 use std::io::{self, Write};
+use std::marker::Model;
 use test_lines::digested;
+
+// The array's size, sixteen bytes more than a journal's.
+const ROOM: usize = 560;
+
+// The most bytes that a strip is lent.
+const STRIP_ROOM: usize = 100;
 
 // An array of 560 bytes, of which the calls are lent the first `lent`.
 #[derive(Drop)]
 pub struct Session {
-    journal: [u8; 560],
-    pub lent: usize,
+    journal: [u8; ROOM],
+    lent: usize,
+}
+
+// A contract sees the bytes that are lent.
+impl Model for Session {
+    ghost use Rattle.std.specs.Prelude.{List, ℕ, ◌≤◌, take};
+
+    ghost Value = { List ℕ };
+
+    ghost view = { λ s. take s.lent s.journal };
+
+    ghost invariant = { λ s. s.lent ≤ 560 };
 }
 
 fn digest(bytes: &[u8]) -> u64 {
@@ -31,26 +49,21 @@ fn hand_back<W: Write>(out: &mut W, journal: &[u8], strip: &mut [u8]) -> io::Res
 }
 
 impl Session {
-    pub fn new() -> Session
-        ensures { result.lent ≤ 560 }
-    {
+    pub fn new() -> Session {
         Session {
-            journal: [0; 560],
-            lent: 544,
+            journal: [0; ROOM],
+            lent: JOURNAL_SIZE,
         }
     }
 
     // Carries out a line.
-    pub fn obey<W: Write>(&mut self, out: &mut W, alloc: Global, line: &str) -> anyhow::Result<()>
-        requires { self.old.lent ≤ 560 }
-        ensures { self.new.lent ≤ 560 }
-    {
+    pub fn obey<W: Write>(&mut self, out: &mut W, alloc: Global, line: &str) -> anyhow::Result<()> {
         if line.starts_with('#') {
             writeln!(out, "{line}")?;
             return Ok(());
         }
         match Line::parse(alloc, line)? {
-            Line::Lend(size) => self.lent = size.min(560),
+            Line::Lend(size) => self.lent = size.min(ROOM),
             Line::Clear => self.journal.fill(0),
             Line::Write(place, byte) => self.write(place, byte),
             Line::Strip(size) => self.strip(out, size)?,
@@ -59,19 +72,14 @@ impl Session {
         Ok(())
     }
 
-    fn write(&mut self, place: usize, byte: u8)
-        ensures { self.new.lent ≡ self.old.lent }
-    {
+    fn write(&mut self, place: usize, byte: u8) {
         if let Some(b) = self.journal.get_mut(place) {
             *b = byte;
         }
     }
 
     // The answer, and a digest of all 560 bytes.
-    fn call<W: Write>(&mut self, out: &mut W, call: &Call) -> io::Result<()>
-        requires { self.old.lent ≤ 560 }
-        ensures { self.new.lent ≡ self.old.lent }
-    {
+    fn call<W: Write>(&mut self, out: &mut W, call: &Call) -> io::Result<()> {
         let lent = self.lent;
         let answer = call.make(&mut self.journal[..lent]);
         write_answer(out, answer)?;
@@ -80,17 +88,12 @@ impl Session {
 
     // Both forms of the marks, each into an array of dots: the refusal, the length and the whole array; the refusal, the part handed back and a digest of the
     // array; and a digest of the journal.
-    fn strip<W: Write>(&self, out: &mut W, size: usize) -> io::Result<()>
-        requires { self.now.lent ≤ 560 }
-    {
+    fn strip<W: Write>(&self, out: &mut W, size: usize) -> io::Result<()> {
         let journal = &self.journal[..self.lent];
-        let size = size.min(100);
-        let mut strip = [b'.'; 100];
-        let (refusal, written) = match write_marks(journal, &mut strip[..size]) {
-            Ok(count) => (0, count),
-            Err(refusal) => (u8::from(refusal), 0),
-        };
-        write!(out, "{refusal} {written} |")?;
+        let size = size.min(STRIP_ROOM);
+        let mut strip = [b'.'; STRIP_ROOM];
+        let OutputOutcome { refusal, length } = write_marks(journal, &mut strip[..size]).into();
+        write!(out, "{refusal} {length} |")?;
         out.write_all(&strip)?;
         write!(out, "|")?;
         strip.fill(b'.');

@@ -11,7 +11,7 @@ use arrayvec::ArrayVec;
 use commands::reply;
 use protocol::HELD_SIZE;
 use std::marker::Model;
-use text::Reply;
+use text::Text;
 
 // A line as it is keyed: its bytes so far. A line over 64 bytes is refused, whatever its other bytes are, so none is held after the 65th.
 #[derive(Drop)]
@@ -53,7 +53,7 @@ impl Line {
     }
 
     // Takes a byte of the input, after the bytes held of its line. A newline gives the reply to the line, with a newline.
-    pub fn key(&mut self, journal: &mut [u8], byte: u8) -> Option<Reply>
+    pub fn key(&mut self, journal: &mut [u8], byte: u8) -> Option<Text>
         ensures shown { shown result ≡ shown_at byte self.old journal.old }
         ensures line_held { self.new ≡ held_at byte self.old }
         ensures journal_after { journal.new ≡ journal_at byte self.old journal.old }
@@ -62,24 +62,22 @@ impl Line {
             self.hold(byte);
             return None;
         }
-        let reply = answer(journal, self.as_bytes());
+        let answer = answer(journal, self.as_bytes());
         self.bytes.clear();
-        Some(reply)
+        Some(answer)
     }
 }
 
 // The reply to a line, and a newline.
-fn answer(journal: &mut [u8], line: &[u8]) -> Reply
+fn answer(journal: &mut [u8], line: &[u8]) -> Text
     ensures shown { result ≡ reply_to line.now journal.old ++ (byte "\n" ∷ []) }
     ensures journal_after { journal.new ≡ journal_after_line line.now journal.old }
 {
-    let mut reply = reply(journal, line);
-    reply.text(b"\n");
-    reply
+    reply(journal, line).into_line()
 }
 
 // The end of the input: the bytes held, if any, are a last line without newline.
-pub fn end_input(journal: &mut [u8], line: &[u8]) -> Option<Reply>
+pub fn end_input(journal: &mut [u8], line: &[u8]) -> Option<Text>
     ensures shown { shown result ≡ shown_at_end line.now journal.old }
     ensures journal_after { journal.new ≡ journal_at_end line.now journal.old }
 {

@@ -8,41 +8,55 @@ use Rattle.buffers.specs.Bytes.{put}
 use Rattle.buffers.proofs.Lists.{take_put}
 use Rattle.journal.specs.Read.{read_journal}
 use Rattle.reference.specs.Call.{Marks, Write, Ask}
-use Rattle.reference.specs.Answers.{refusal_on, out_bytes, out_after, out_part, output_outcome}
-use Rattle.reference.specs.declared.OutputOutcome.{OutputOutcome}
+use Rattle.reference.specs.Answers.{refusal_on, journal_after, out_bytes, out_after, output_answer}
+use Rattle.reference.specs.declared.Refusal.{Refusal}
+use Rattle.reference.specs.Refused.{number_of}
+use Rattle.std.specs.Prelude.{Ok, Err}
+use Rattle.buffers.specs.Bytes.{zeros}
+use Rattle.reference.specs.Call.{Call}
+use Rattle.reference.proofs.Refused.{named-refusal, err-means, ok-means}
 use Rattle.reference.proofs.Given.{accepted-gives, refused-gives}
-use Rattle.reference.proofs.Demand1.{out-fits}
+use Rattle.reference.proofs.Demand1.{demand-1, out-fits}
 use Rattle.protocol.specs.Reply.{refusal_reply, marks_reply, query_reply}
 
-module _ (journal out : List ℕ) (room : length out ≡ 80) (answer : OutputOutcome) (is : answer ≡ output_outcome Marks journal out) where
-  abbrev number : ℕ
-  number = refusal_on (Ask (Write Marks 80)) journal
+-- a marks call leaves the journal unchanged
+pub marks_keep : (journal : List ℕ) → journal ≡ journal_after (Ask (Write Marks 80)) journal
+marks_keep journal = sym (demand-1.query_kept (Write Marks 80) journal)
+
+-- what a marks call on 80 bytes gives, and the reply to it
+module _ (journal : List ℕ) where
+  abbrev call : Call
+  call = Ask (Write Marks 80)
 
   abbrev marks : List ℕ
   marks = out_bytes Marks (read_journal journal)
 
-  number-is : answer.refusal ≡ number
-  number-is = ap (λ (a : OutputOutcome). a.refusal) is ∙ ap (λ size. refusal_on (Ask (Write Marks size)) journal) room
+  abbrev number : ℕ
+  number = refusal_on call journal
 
-  pub refusal_replied : (answer.refusal ≡ 0 → ⊥) → refusal_reply answer.refusal ≡ query_reply (Write Marks 80) journal
-  refusal_replied some =
-      ap refusal_reply number-is ∙ sym (refused-gives (Ask (Write Marks 80)) journal (marks_reply marks) (refusal_reply number) (λ none. some (number-is ∙ none)))
+  module _ (refusal : Refusal) (is : Err refusal ≡ output_answer Marks journal (zeros 80)) where
+    pub refusal_replied : refusal_reply (number_of refusal) ≡ query_reply (Write Marks 80) journal
+    unfolding output_answer
+    refusal_replied =
+        let m = err-means number (length marks) refusal is in
+        ap refusal_reply (ap number_of m.1 ∙ named-refusal call journal m.0)
+        ∙ sym (refused-gives call journal (marks_reply marks) (refusal_reply number) m.0)
 
-  module _ (fine : answer.refusal ≡ 0) where
-    none : number ≡ 0
-    none = sym number-is ∙ fine
+  module _ (count : ℕ) (is : Ok count ≡ output_answer Marks journal (zeros 80)) where
+    accepted : (number ≡ 0) × (count ≡ length marks)
+    unfolding output_answer
+    accepted = ok-means number (length marks) count is
 
-    count-is : answer.length ≡ length marks
-    unfolding out_part
-    count-is = ap (λ (a : OutputOutcome). a.length) is ∙ rw room (ap length (accepted-gives (Ask (Write Marks 80)) journal marks _ none))
+    pub few_marks : count ≤ 80
+    few_marks = omega (arith, accepted.1, out-fits Marks journal 80 accepted.0)
 
-    pub few_marks : answer.length ≤ 80
-    few_marks = omega (arith, out-fits Marks journal 80 none, count-is)
+    module _ (after : List ℕ) (left : after ≡ out_after Marks journal (zeros 80)) where
+      written : take count after ≡ marks
+      unfolding out_after
+      written = rw (left, accepted.1, accepted-gives call journal (put (zeros 80) 0 marks) (zeros 80) accepted.0) (take_put (zeros 80) marks)
 
-    pub marks_written : (after : List ℕ) → after ≡ out_after Marks journal out → take answer.length after ≡ marks
-    unfolding out_after
-    marks_written after e =
-        rw (e, count-is, room, accepted-gives (Ask (Write Marks 80)) journal (put out 0 marks) out none) (take_put out marks)
+      pub front_size : length (take count after) ≡ count
+      front_size = ap length written ∙ sym accepted.1
 
-    pub marks_replied : (after : List ℕ) → after ≡ out_after Marks journal out → marks_reply (take answer.length after) ≡ query_reply (Write Marks 80) journal
-    marks_replied after e = rw (marks_written after e) (sym (accepted-gives (Ask (Write Marks 80)) journal (marks_reply marks) (refusal_reply number) none))
+      pub marks_replied : marks_reply (take count after) ≡ query_reply (Write Marks 80) journal
+      marks_replied = rw written (sym (accepted-gives call journal (marks_reply marks) (refusal_reply number) accepted.0))

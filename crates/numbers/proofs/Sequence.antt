@@ -112,6 +112,6 @@ told : (read : Option (List ℕ)) → numbers_outcome_of (read_or_refused read) 
 told (Some vs) = refl
 told None = refl
 
-pub numbers-outcome : (line : List ℕ) (r : Result (ArrayVec ℕ) Refusal) → r ≡ numbers_of line → numbers_outcome_of r ≡ numbers_outcome line
+pub outcome_of_line : (line : List ℕ) (r : Result (ArrayVec ℕ) Refusal) → r ≡ numbers_of line → numbers_outcome line ≡ numbers_outcome_of r
 unfolding numbers_outcome
-numbers-outcome line r e = ap numbers_outcome_of e ∙ told (numbers_from (length line) line 1)
+outcome_of_line line r e = sym (ap numbers_outcome_of e ∙ told (numbers_from (length line) line 1))

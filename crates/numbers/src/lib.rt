@@ -27,6 +27,7 @@ pub fn spaced_number(line: &[u8], at: usize) -> Option<Number>
 }
 
 // The numbers after a line's letter, to the line's end.
+#[tactic(auto, using(crate::proofs::Sequence::read_none, crate::proofs::Sequence::read_all, crate::proofs::Sequence::outcome_of_line))]
 pub fn read_numbers(line: &[u8]) -> Result<ArrayVec<u32, MOST_NUMBERS>, Refusal>
     requires some_line { 1 ≤ length line.now }
     requires line_size { length line.now ≤ 64 }

@@ -25,10 +25,9 @@ pub enum CallRequest<'a> {
 fn setup_from(values: &[u32]) -> Result<Setup, Refusal>
     ensures { result ≡ cond (eqb (length values.now) 8) (Ok (setup_from values.now)) (Err Refusal.LineForm) }
 {
-    match <[u32; 8]>::try_from(values) {
-        Ok(numbers) => Ok(Setup::from(numbers)),
-        Err(_) => Err(Refusal::LineForm),
-    }
+    <[u32; 8]>::try_from(values)
+        .map(Setup::from)
+        .map_err(|_| Refusal::LineForm)
 }
 
 // What a letter and its numbers ask for. "An odd count of readings is refused by 2"; the call judges how many there are.

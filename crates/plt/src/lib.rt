@@ -11,8 +11,13 @@ use answers::put_answer;
 use buffers::front::put_front;
 use commands::reply;
 use entries::enter_engine;
+use exports::FIGURE_COUNT;
 use protocol::REPLY_SIZE;
 use queries::{read_status, write_marks};
+use reference::OutputOutcome;
+
+// No refusal: what a call returns that has no room for its figures.
+const TOO_FEW_FIGURES: u8 = 255;
 
 // A key line without its newline: puts its reply at the front of the output and returns its length. With under 96 bytes of output, does nothing and returns 0.
 #[tactic(auto, unfolding(exports::specs::Exports::reply_count, exports::specs::Exports::reply_left, exports::specs::Exports::line_left))]
@@ -47,8 +52,8 @@ pub extern "C" fn plt_engine(
     ensures figures_after { figures.new ≡ figures_left (Enter (engine_entry number hcnox.now co.now)) journal.old figures.old }
     ensures journal_after { journal.new ≡ journal_left (Enter (engine_entry number hcnox.now co.now)) journal.old figures.old }
 {
-    if figures.len() < 20 {
-        return 255;
+    if figures.len() < FIGURE_COUNT {
+        return TOO_FEW_FIGURES;
     }
     put_answer(figures, enter_engine(journal, number, hcnox, co))
 }
@@ -60,8 +65,8 @@ pub extern "C" fn plt_status(journal: &[u8], figures: &mut [u64]) -> u8
     ensures refusal { result ≡ refusal_given (Ask ReadStatus) journal.now figures.old }
     ensures figures_after { figures.new ≡ figures_left (Ask ReadStatus) journal.now figures.old }
 {
-    if figures.len() < 20 {
-        return 255;
+    if figures.len() < FIGURE_COUNT {
+        return TOO_FEW_FIGURES;
     }
     put_answer(figures, read_status(journal))
 }
@@ -73,14 +78,7 @@ pub extern "C" fn plt_marks(journal: &[u8], out: &mut [u8], written: &mut usize)
     ensures out_after { out.new ≡ out_after Marks journal.now out.old }
     ensures written_after { written.new ≡ (output_outcome Marks journal.now out.old).length }
 {
-    match write_marks(journal, out) {
-        Ok(count) => {
-            *written = count;
-            0
-        }
-        Err(refusal) => {
-            *written = 0;
-            u8::from(refusal)
-        }
-    }
+    let outcome = OutputOutcome::from(write_marks(journal, out));
+    *written = outcome.length;
+    outcome.refusal
 }

@@ -42,6 +42,11 @@ abbrev pub answer_reply : Result Status Refusal → List ℕ
 answer_reply (Ok s) = status_reply s
 answer_reply (Err refusal) = refusal_reply (number_of refusal)
 
+-- the reply to what a call or a line gives: the reply itself, or that of the refusal
+abbrev pub replied : Result (List ℕ) Refusal → List ℕ
+replied (Ok reply) = reply
+replied (Err refusal) = refusal_reply (number_of refusal)
+
 -- the reply to a call on a journal: the marks for a marks call, the status for any other
 abbrev pub query_reply : Query → List ℕ → List ℕ
 query_reply ReadStatus journal = answer_reply (answer (Ask ReadStatus) journal)

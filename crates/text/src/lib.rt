@@ -1,36 +1,38 @@
 // A reply as it is written: text, numbers, sample sizes and marks, one after another.
 #![tactic(auto)]
 
-ghost use Rattle.std.specs.Prelude.{◌≡◌, [], ◌∷◌, ◌++◌, ◌+◌, ◌≤◌, length};
+ghost use Rattle.std.specs.Prelude.{◌≡◌, [], ◌∷◌, ◌++◌, ◌+◌, ◌≤◌, ◌<◌, length};
 ghost use Rattle.cumsum.specs.Marks.{mark_byte};
 ghost use Rattle.protocol.specs.Reply.{spaced, size_text};
 ghost use Rattle.ascii.specs.Decimal.{decimal};
+ghost use Rattle.ascii.specs.Text.{byte};
 
 use arrayvec::ArrayVec;
 use cumsum::Mark;
+use itoa::Buffer;
 use marking::marks::mark_byte;
 use protocol::REPLY_SIZE;
 use std::marker::Model;
 
-// The bytes of a reply. A contract sees the list of them.
+// Bytes that are put one after another, at most 96. A contract sees the list of them.
 #[derive(Drop)]
-pub struct Reply {
+pub struct Text {
     bytes: ArrayVec<u8, REPLY_SIZE>,
 }
 
-impl Model for Reply {
-    ghost use Rattle.std.specs.Prelude.{List, ℕ, ◌≤◌, length};
+impl Model for Text {
+    ghost use Rattle.std.specs.Prelude.{List, ℕ};
 
     ghost Value = { List ℕ };
 
-    ghost view = { λ r. r.bytes.items };
+    ghost view = { λ t. t.bytes.items };
 }
 
-impl Reply {
-    pub fn new() -> Reply
+impl Text {
+    pub fn new() -> Text
         ensures { result ≡ [] }
     {
-        Reply {
+        Text {
             bytes: ArrayVec::new(),
         }
     }
@@ -42,8 +44,8 @@ impl Reply {
         self.bytes.as_slice()
     }
 
-    // All bytes of a text.
-    pub fn text(&mut self, bytes: &[u8])
+    // All of these bytes.
+    pub fn put(&mut self, bytes: &[u8])
         requires { length self.old + length bytes.now ≤ 96 }
         ensures { self.new ≡ self.old ++ bytes.now }
     {
@@ -51,15 +53,14 @@ impl Reply {
     }
 
     // A space, and a number in decimal, at most 20 digits.
+    #[tactic(auto, using(crate::proofs::Decimal::spaced_decimal, crate::proofs::Decimal::few_digits))]
     pub fn number(&mut self, n: u64)
         requires { length self.old + 21 ≤ 96 }
         ensures written { self.new ≡ self.old ++ spaced (decimal n) }
         ensures at_most { length self.new ≤ length self.old + 21 }
     {
-        let mut digits = [0u8; 20];
-        let count = io::decimal(n, &mut digits);
-        self.text(b" ");
-        self.text(&digits[..count]);
+        self.put(b" ");
+        self.put(Buffer::new().format(n).as_bytes());
     }
 
     // A space, and a sample size in tenths or '-' for none.
@@ -70,7 +71,7 @@ impl Reply {
     {
         match size {
             Some(tenths) => self.number(tenths),
-            None => self.text(b" -"),
+            None => self.put(b" -"),
         }
     }
 
@@ -79,6 +80,47 @@ impl Reply {
         requires { length self.old + 3 ≤ 96 }
         ensures { self.new ≡ self.old ++ spaced (mark_byte hcnox ∷ mark_byte co ∷ []) }
     {
-        self.text(&[b' ', mark_byte(hcnox), mark_byte(co)]);
+        self.put(&[b' ', mark_byte(hcnox), mark_byte(co)]);
+    }
+}
+
+// A whole reply: always shorter than 96 bytes, so that its newline fits too.
+#[derive(Drop)]
+pub struct Reply {
+    text: Text,
+}
+
+impl Model for Reply {
+    ghost use Rattle.std.specs.Prelude.{List, ℕ, ◌<◌, length};
+
+    ghost Value = { List ℕ };
+
+    ghost view = { λ r. r.text };
+
+    ghost invariant = { λ r. length r.text < 96 };
+}
+
+impl Reply {
+    pub fn new(text: Text) -> Reply
+        requires { length text < 96 }
+        ensures { result ≡ text }
+    {
+        Reply { text }
+    }
+
+    pub fn as_bytes(&self) -> &[u8]
+        ensures value { result.now ≡ self.now }
+        ensures fits { length result.now < 96 }
+    {
+        self.text.as_bytes()
+    }
+
+    // The reply and a newline.
+    pub fn into_line(self) -> Text
+        ensures { result ≡ self ++ (byte "\n" ∷ []) }
+    {
+        let mut text = self.text;
+        text.put(b"\n");
+        text
     }
 }

@@ -4,7 +4,7 @@ use results::result_of;
 use rounding::Factor;
 use schedule::{needs, one_percent, periods};
 use std::alloc::Global;
-use test_lines::numbers::numbers;
+use test_lines::numbers::letter_and_numbers;
 use year::{Event, Pair, Setup};
 
 #[derive(Clone, Copy)]
@@ -23,8 +23,7 @@ pub enum Line {
 
 impl Line {
     pub fn parse(alloc: Global, line: &str) -> anyhow::Result<Line> {
-        let (letter, rest) = line.split_once(' ').unwrap_or((line, ""));
-        let numbers = numbers(alloc, rest)?;
+        let (letter, numbers) = letter_and_numbers(alloc, line)?;
         Ok(match (letter, numbers.as_slice()) {
             (".", []) => Line::End,
             ("r", &[kind, value, _, ref readings @ ..]) => Line::Number(rounded(

@@ -1,24 +1,20 @@
 -- `read_numbers` meets its contract.
-use Rattle.std.proofs.Common.{◌≡◌, Some, None, lit<, arith}
-use Rattle.std.proofs.lemmas.Result.{err_from_is_err_and}
+use Rattle.std.proofs.Common.{sym, ◌≡◌, Some, None, lit<, arith}
 use Rattle.reference.specs.declared.Refusal.TheVariants.{LineForm}
+use Rattle.reference.proofs.Refused.{handed-on}
 use Rattle.protocol.specs.KeyLine.{spaced_number}
-use Rattle.numbers.proofs.Sequence.{read_none, read_all, refused, Next, read_next, numbers-outcome}
+use Rattle.numbers.proofs.Sequence.{refused, Next, read_next, outcome_of_line}
 use Rattle.numbers.proofs.read_numbers.Goals as goal
-
-pub loop-at-init : goal.loop-at-init
-loop-at-init c = rw c.new-numbers.ensures (read_none c.args.line.now c.requires.some_line)
 
 -- the rest of the line has no number at `at`
 pub returns-in_err-number-clause-numbers : goal.returns-in_err-number-clause-numbers
 returns-in_err-number-clause-numbers c =
     let none : spaced_number c.args.line.now c.loop-at.at ≡ None = grind arith in
     let form : c.in_err-number.field-0.0 ≡ LineForm = grind arith in
-    let p = err_from_is_err_and c.from_residual.result c.from_residual.ensures.1 in
-    rw (p.1, p.2, form) (refused c.args.line.now _ _ c.loop-at.invariant c.loop-at-test.true none)
+    handed-on c.from_residual.ensures.1 (rw form (refused c.args.line.now _ _ c.loop-at.invariant c.loop-at-test.true none))
 
 pub returns-in_err-number-clause-outcome : goal.returns-in_err-number-clause-outcome
-returns-in_err-number-clause-outcome c = numbers-outcome c.args.line.now _ (returns-in_err-number-clause-numbers c)
+returns-in_err-number-clause-outcome c = sym (outcome_of_line c.args.line.now _ (returns-in_err-number-clause-numbers c))
 
 -- a number was found, and there is room for it
 pub push-requires : goal.push-requires
@@ -36,9 +32,3 @@ loop-at-smaller c = omega (arith, (next c).further)
 
 pub loop-at-preserved : goal.loop-at-preserved
 loop-at-preserved c = rw c.push.ensures.items (next c).read_to
-
-pub returns-clause-numbers : goal.returns-clause-numbers
-returns-clause-numbers c = read_all c.args.line.now c.loop-at.numbers.items c.loop-at.at c.loop-at.invariant c.loop-at-test.false
-
-pub returns-clause-outcome : goal.returns-clause-outcome
-returns-clause-outcome c = numbers-outcome c.args.line.now _ (returns-clause-numbers c)
