@@ -1,10 +1,10 @@
 // The public calls, and how their answers are printed.
 use entries::{enter_change, enter_engine, set_up};
 use queries::read_status;
-use reference::{Answer, Change};
+use reference::{Answer, Change, EngineEntry};
 use std::io::{self, Write};
 use test_lines::shown::Shown;
-use year::Setup;
+use year::{Pair, Setup};
 
 #[derive(Drop)]
 pub enum Call {
@@ -22,7 +22,16 @@ impl Call {
     pub fn make(&self, journal: &mut [u8]) -> Answer {
         match self {
             Call::SetUp(setup) => set_up(journal, *setup),
-            Call::Engine { number, hcnox, co } => enter_engine(journal, *number, hcnox, co),
+            Call::Engine { number, hcnox, co } => enter_engine(
+                journal,
+                &EngineEntry {
+                    number: *number,
+                    readings: Pair {
+                        hcnox: hcnox.as_slice(),
+                        co: co.as_slice(),
+                    },
+                },
+            ),
             Call::Change(change) => enter_change(journal, *change),
             Call::Status => read_status(journal),
         }

@@ -33,9 +33,7 @@ pub fn carry_out(journal: &mut [u8], call: CallRequest<'_>) -> Result<Reply, Ref
 {
     match call {
         CallRequest::SetUp(setup) => set_up(journal, setup).map(status_reply),
-        CallRequest::Engine { number, hcnox, co } => {
-            enter_engine(journal, number, hcnox, co).map(status_reply)
-        }
+        CallRequest::Engine(engine) => enter_engine(journal, &engine).map(status_reply),
         CallRequest::Change(change) => enter_change(journal, change).map(status_reply),
         CallRequest::WriteMarks => list_marks(journal),
     }

@@ -10,7 +10,7 @@ use Rattle.parser.specs.declared.CallRequest.TheVariants.{SetUp, Engine, Change,
 -- the call of a request, and the command
 abbrev pub call_for : CallRequest → calls.Call
 call_for (SetUp s) = calls.SetUp s
-call_for (Engine number hcnox co) = calls.Enter (calls.EnterEngine number (record { hcnox = hcnox.now; co = co.now }))
+call_for (Engine engine) = calls.Enter (calls.entry_of engine)
 call_for (Change change) = calls.Enter (calls.EnterChange change)
 call_for WriteMarks = calls.Ask (calls.Write calls.Marks 80)
 

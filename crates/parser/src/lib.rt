@@ -5,18 +5,14 @@ ghost use Rattle.std.specs.Prelude.{◌≡◌, cond, eqb, length};
 ghost use Rattle.protocol.specs.KeyLine.{asked, setup_from, call_of};
 ghost use Rattle.parser.specs.Request.{command_for};
 
-use reference::{Change, Refusal};
+use reference::{Change, EngineEntry, Refusal};
 use year::{Pair, Setup};
 
 // The call that a line asks for.
 #[derive(Clone, Copy)]
 pub enum CallRequest<'a> {
     SetUp(Setup),
-    Engine {
-        number: u32,
-        hcnox: &'a [u32],
-        co: &'a [u32],
-    },
+    Engine(EngineEntry<'a>),
     Change(Change),
     WriteMarks,
 }
@@ -39,7 +35,10 @@ pub fn requested<'a>(letter: u8, values: &'a [u32]) -> Result<CallRequest<'a>, R
         (b'S', _) => CallRequest::SetUp(setup_from(values)?),
         (b'E', &[number, ref readings @ ..]) if readings.len() % 2 == 0 => {
             let (hcnox, co) = readings.split_at(readings.len() / 2);
-            CallRequest::Engine { number, hcnox, co }
+            CallRequest::Engine(EngineEntry {
+                number,
+                readings: Pair { hcnox, co },
+            })
         }
         (b'A', &[hcnox, co]) => CallRequest::Change(Change::Amend(Pair { hcnox, co })),
         (b'P', []) => CallRequest::Change(Change::BeginPeriod),

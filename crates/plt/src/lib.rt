@@ -14,7 +14,8 @@ use entries::enter_engine;
 use exports::FIGURE_COUNT;
 use protocol::REPLY_SIZE;
 use queries::{read_status, write_marks};
-use reference::OutputOutcome;
+use reference::{EngineEntry, OutputOutcome};
+use year::Pair;
 
 // No refusal: what a call returns that has no room for its figures.
 const TOO_FEW_FIGURES: u8 = 255;
@@ -55,7 +56,11 @@ pub extern "C" fn plt_engine(
     if figures.len() < FIGURE_COUNT {
         return TOO_FEW_FIGURES;
     }
-    put_answer(figures, enter_engine(journal, number, hcnox, co))
+    let engine = EngineEntry {
+        number,
+        readings: Pair { hcnox, co },
+    };
+    put_answer(figures, enter_engine(journal, &engine))
 }
 
 // Status: returns the refusal, 0 for none, and writes the figures. With room for under twenty figures, does nothing and returns 255.
