@@ -1,7 +1,7 @@
 -- The stored form: its length, its slots, its version, and one more event.
 use mathlib.Core.Path.{◌≡◌, refl, sym, ap, ◌∙◌}
 use mathlib.Core.Logic.{◌↔◌}
-use mathlib.Core.Bool.{Bool, true, false, cond, ◌&&◌, ◌||◌, and-eq-true_iff}
+use mathlib.Core.Bool.{Bool, true, false, cond, and-eq-true_iff}
 use mathlib.Core.List.{List, [], ◌∷◌, ◌++◌}
 use Prim.Native.Nat.{ℕ, ◌+◌, ◌-◌, ◌*◌, ◌≤◌, ◌<◌}
 use native.Mathlib.Numerals.{add-one}
@@ -10,12 +10,13 @@ use lib.Dec.{eqb}
 use lib.ListN.{length, take, drop, length-append}
 use lib.Seq.{take_at, drop_at, drop-drop}
 use borrow.Author.Tests.{eqb-true, eq-eqb}
+use Rattle.std.proofs.lemmas.Bool.Decides.{nat_tests}
 use Rattle.buffers.specs.Bytes.{put, zeros}
 use Rattle.buffers.proofs.LittleEndian.{from-two}
 use Rattle.buffers.proofs.Lists.{length-zeros, drop-zeros}
 use Rattle.year.specs.declared.Setup.{Setup}
 use Rattle.year.specs.declared.Event.{Event}
-use Rattle.year.specs.Deletions.{is_deletion, has_deletion}
+use Rattle.year.specs.Deletions.{is_deletion}
 use Rattle.journal.specs.Encode.{version, can_hold, header, slot_of, slots, encode, slot_place, with_slot, raises, raised, append}
 
 pub length-slot : (e : Event) → length (slot_of e) ≡ 8
@@ -37,13 +38,7 @@ unfolding put
 version-put s es v h = rw h
 
 version-next : (e : Event) (es : List Event) → version (e ∷ es) ≡ raised e (version es)
-version-next e es = by (is_deletion e) (has_deletion es)
-  where
-    by : (d h : Bool) → ◌≡◌ {A = ℕ} (cond (d || h) 2 1) (cond (d && eqb (cond h 2 1) 1) 2 (cond h 2 1))
-    by true true = refl
-    by true false = refl
-    by false true = refl
-    by false false = refl
+version-next e es = grind (arith, nat_tests)
 
 module _ (v : ℕ) (s : Setup) (es : List Event) where
   pub holds-iff : (can_hold v s es ≡ true) ↔ (v ≡ version es)
@@ -52,11 +47,7 @@ module _ (v : ℕ) (s : Setup) (es : List Event) where
 
   -- it fits the two bytes 3 and 4
   pub holds-small : can_hold v s es ≡ true → v < 65536
-  holds-small h = rw (holds-iff.0 h) (by (has_deletion es))
-    where
-      by : (d : Bool) → cond d 2 1 < 65536
-      by true = omega arith
-      by false = omega arith
+  holds-small h = rw (holds-iff.0 h) (grind (arith, nat_tests))
 
   pub holds-next : (e : Event) → can_hold v s es ≡ true → can_hold (raised e v) s (e ∷ es) ≡ true
   unfolding can_hold

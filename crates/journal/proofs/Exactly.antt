@@ -1,11 +1,12 @@
 -- A buffer is accepted exactly if its parts are as document 01 says: size, header, version, number of events, events in their order, unused slots.
 use mathlib.Core.Path.{◌≡◌, refl, sym, ap, ◌∙◌}
-use mathlib.Core.Bool.{Bool, true, false, cond, ◌&&◌, and-true, and-false, and_assoc, and-eq-true_iff}
+use mathlib.Core.Bool.{Bool, true, false, cond, ◌&&◌, and-true, and_assoc, and-eq-true_iff}
 use mathlib.Core.List.{List, ◌++◌}
 use Prim.Native.Nat.{ℕ, zero, suc, ◌+◌, ◌-◌, ◌*◌, ◌≤◌}
 use native.Mathlib.Omega.{arith}
 use lib.ListN.{length, get_or, take, drop, length-append, length-drop}
 use lib.Seq.{take-take, drop-drop}
+use Rattle.std.proofs.lemmas.Bool.Decides.{nat_tests}
 use Rattle.buffers.specs.Bytes.{zeros, same}
 use Rattle.buffers.proofs.Lists.{drop-take}
 use Rattle.buffers.proofs.Same.{same-equal, same-append}
@@ -35,10 +36,7 @@ length-events journal zero = refl
 length-events journal (suc j) = ap suc (length-events journal j)
 
 and-swap : (a v s d : Bool) → ((a && v) && (s && d)) ≡ ((a && s) && (v && d))
-and-swap false v s d = refl
-and-swap true true s d = refl
-and-swap true false true d = refl
-and-swap true false false d = refl
+and-swap a v s d = grind (arith, nat_tests)
 
 module _ (journal : List ℕ) where
   abbrev body : ℕ → List ℕ
@@ -88,10 +86,7 @@ module _ (journal : List ℕ) where
   whole_is = rw (encoded-is, enters_is count) (moved (is_header journal) _ _ _)
     where
       moved : (h s z v : Bool) → (((h && s) && z) && v) ≡ ((h && z) && (s && v))
-      moved false s z v = refl
-      moved true false z v = sym (and-false z)
-      moved true true true v = refl
-      moved true true false v = refl
+      moved h s z v = grind (arith, nat_tests)
 
   rest-length : length journal ≡ 544 → length (drop (slot_place count) journal) ≡ 512 - 8 * count
   rest-length h = omega (arith, length-drop (slot_place count) journal)
