@@ -2,15 +2,13 @@
 use mathlib.Core.Path.{◌≡◌, refl, sym, ap, subst, ◌∙◌}
 use mathlib.Core.Bool.{Bool, true, false, cond, ◌&&◌, true≢false, and-eq-true_iff}
 use mathlib.Core.List.{List, []}
-use Prim.Native.Nat.{ℕ, zero, suc, ◌+◌, ◌*◌, ◌/◌, ◌≤◌, ◌<◌}
+use Prim.Native.Nat.{ℕ, zero, suc, ◌+◌, ◌≤◌, ◌<◌}
 use native.Mathlib.Decide.{dec_lt}
 use native.Mathlib.Numerals.{add-one}
 use native.Mathlib.Omega.{arith}
 use lib.ListN.{length, get_or, take, drop}
 use Rattle.std.specs.Prelude.{Option, Some, None}
-use Rattle.std.specs.Simd.{first_chunks}
-use Rattle.std.proofs.lemmas.List.{get_or-take, drop-drop, length-take, length-drop}
-use Rattle.buffers.proofs.Lists.{part-from}
+use Rattle.std.proofs.lemmas.List.{get_or-take, length-take}
 use Rattle.conditions.proofs.Tests.{and-true}
 use Rattle.year.specs.declared.Event.{Event}
 use Rattle.year.specs.Setup.{setup_in_range}
@@ -19,8 +17,9 @@ use Rattle.year.specs.Admissible.{admissible}
 use Rattle.year.proofs.Replayed.{replay-setup}
 use Rattle.year.specs.Model.{NoSetup, Year}
 use Rattle.journal.specs.Encode.{slot_place}
-use Rattle.journal.specs.Read.{setup_in, event_in, events_in}
+use Rattle.journal.specs.Read.{slots_in, setup_in, event_in, events_in}
 use Rattle.journal.specs.Acceptance.{is_slot, enters_at, enters_up_to}
+use Rattle.journal.proofs.Slots.{length-slots_in, slot_at}
 use Rattle.event_decoder.proofs.Slots.{front_slot, front_event}
 use Rattle.progress.specs.State.{MayEnter}
 use Rattle.slots.specs.Scanned.{year_of, Entered, entered}
@@ -59,43 +58,15 @@ module _ (journal : List ℕ) (n : ℕ) where
       let v = subst (λ k. Entered journal k p) same u in
       rw (all-entered (and-true v.setup v.enters), ← v.stands)
 
--- the chunks of a list are its parts one after another
-chunk-at : (k j : ℕ) (xs : List ℕ) → j < k → get_or (first_chunks 8 k xs) j [] ≡ take 8 (drop (8 * j) xs)
-chunk-at zero j xs l = let none : ⊥ = omega arith in absurd none
-chunk-at (suc k) zero xs l = refl
-chunk-at (suc k) (suc j) xs l =
-    let next : 8 + 8 * j ≡ 8 * suc j = omega arith in
-    chunk-at k j (drop 8 xs) (omega arith) ∙ ap (take 8) (drop-drop (8 * j) 8 xs ∙ ap (λ i. drop i xs) next)
+-- the first n of a journal's slots
+module _ (journal : List ℕ) (n : ℕ) (few : n ≤ 64) (slots : List (List ℕ)) (are : slots ≡ slots_in journal) where
+  pub all : length (take n slots) ≡ n
+  all = omega (arith, length-take n slots, ap length are, length-slots_in journal)
 
-length-chunks : (k : ℕ) (xs : List ℕ) → length (first_chunks 8 k xs) ≡ k
-length-chunks zero xs = refl
-length-chunks (suc k) xs = ap suc (length-chunks k (drop 8 xs))
-
--- the first n of a journal's slots, as chunks of the bytes from 32 on
-module _ (journal : List ℕ) (size : length journal ≡ 544) (n : ℕ) (few : n ≤ 64) (chunks : List (List ℕ))
-    (front : chunks ≡ first_chunks 8 (length (take 512 (drop 32 journal)) / 8) (take 512 (drop 32 journal))) where
-  whole : take 512 (drop 32 journal) ≡ drop 32 journal
-  whole = rw size at (part-from journal 32)
-
-  slots : chunks ≡ first_chunks 8 64 (drop 32 journal)
-  slots =
-      let long : length (drop 32 journal) ≡ 512 = omega (arith, length-drop 32 journal, size) in
-      front ∙ rw (whole, long)
-
-  pub all : length (take n chunks) ≡ n
-  all =
-      let long : length (first_chunks 8 64 (drop 32 journal)) ≡ 64 = length-chunks 64 (drop 32 journal) in
-      omega (arith, few, length-take n chunks, ap length slots, long)
-
-  pub slot-at : (j : ℕ) → j < length (take n chunks) → (j < n) × (get_or (take n chunks) j [] ≡ take 8 (drop (slot_place j) journal))
+  pub slot-at : (j : ℕ) → j < length (take n slots) → (j < n) × (get_or (take n slots) j [] ≡ take 8 (drop (slot_place j) journal))
   slot-at j l =
       let below : j < n = omega (arith, all, l) in
-      (
-        below,
-        get_or-take n chunks j [] below
-        ∙ rw slots (chunk-at 64 j (drop 32 journal) (omega arith))
-        ∙ ap (take 8) (drop-drop (8 * j) 32 journal),
-      )
+      (below, get_or-take n slots j [] below ∙ rw are (slot_at journal j [] (omega arith)))
 
 abbrev given : Event → Option Event → Event
 given d (Some e) = e

@@ -6,7 +6,7 @@ ghost use Rattle.slots.specs.Scanned.{year_of, Entered, entered};
 
 use admission::is_admissible;
 use event_decoder::read_slot;
-use journal::JOURNAL_SIZE;
+use journal::{JOURNAL_SIZE, slots_in};
 use progress::Progress;
 
 // Enters the events of the first slots one after another, starting from the state of a setup alone. There is no year if a slot is not in the one accepted form,
@@ -15,9 +15,8 @@ pub fn enter_slots(journal: &[u8; JOURNAL_SIZE], count: usize, first: Progress) 
     requires { (count ≤ 64) × Entered journal.now 0 first }
     ensures { result ≡ year_of (entered journal.now count) }
 {
-    let (slots, _) = journal[32..].as_chunks::<8>();
     let mut p = first;
-    for slot in &slots[..count] {
+    for slot in &slots_in(journal)[..count] {
         let e = read_slot(slot)?;
         if !is_admissible(&p, e) {
             return None;
