@@ -27,7 +27,7 @@ pub const FIRST_VERSION: u8 = 1;
 
 pub const DELETION_VERSION: u8 = 2;
 
-// The kind of an event, in byte 0 of its slot.
+// The kind of an event, in byte 0 of its slot, as documents 01 and 02 number it. (As an enum, by TryFrom, it made a scan slower.)
 pub mod kind {
     pub const ENGINE: u8 = 1;
 
