@@ -7,7 +7,6 @@ ghost use Rattle.reference.specs.Answers.{outcome_of};
 ghost use Rattle.exports.specs.Numbers.{pollutant_numbers, status_numbers};
 
 use exports::FIGURE_COUNT;
-use marking::marks::mark_byte;
 use reference::Answer;
 use year::{Figures, Status};
 
@@ -25,7 +24,7 @@ fn pollutant_numbers(f: Figures) -> [u64; 9]
         f.limit.low,
         f.limit.high,
         f.size.unwrap_or_default(),
-        u64::from(mark_byte(f.mark)),
+        u64::from(u8::from(f.mark)),
     ]
 }
 

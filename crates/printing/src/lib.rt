@@ -15,7 +15,6 @@ use arrayvec::ArrayVec;
 use buffers::front::put_front;
 use engines::Engines;
 use engines::rework::add_tests;
-use marking::marks::mark_byte;
 use year::{MOST_MARKS, Pair, Tested};
 
 // The marks of engines in order of entry, HC+NOx then CO, at any resolution.
@@ -29,8 +28,8 @@ fn marks_of(engines: &[Tested], resolution: u64) -> ArrayVec<u8, MOST_MARKS>
     let mut figures = Pair::default();
     for x in engines {
         add_tests(&mut figures, x.tests(), resolution);
-        marks.push(mark_byte(figures.hcnox.mark));
-        marks.push(mark_byte(figures.co.mark));
+        marks.push(u8::from(figures.hcnox.mark));
+        marks.push(u8::from(figures.co.mark));
     }
     marks
 }

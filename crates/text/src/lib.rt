@@ -10,7 +10,6 @@ ghost use Rattle.ascii.specs.Text.{byte};
 use arrayvec::ArrayVec;
 use cumsum::Mark;
 use itoa::Buffer;
-use marking::marks::mark_byte;
 use protocol::REPLY_SIZE;
 use std::marker::Model;
 
@@ -80,7 +79,7 @@ impl Text {
         requires { length self.old + 3 ≤ 96 }
         ensures { self.new ≡ self.old ++ spaced (mark_byte hcnox ∷ mark_byte co ∷ []) }
     {
-        self.put(&[b' ', mark_byte(hcnox), mark_byte(co)]);
+        self.put(&[b' ', u8::from(hcnox), u8::from(co)]);
     }
 }
 
