@@ -12,7 +12,9 @@ use Rattle.std.proofs.lemmas.List.{reverse-append, reverse-reverse, length-appen
 use Rattle.std.proofs.Math.Seq.{take-append_seam}
 use Rattle.std.proofs.lemmas.List.Sorted.{IsPermutation-reverse, list_any-IsPermutation}
 use Rattle.year.specs.declared.Tested.{Tested}
-use Rattle.year.specs.Setup.{Pollutant, of}
+use Rattle.year.specs.declared.Pair.{Pair}
+use Rattle.year.specs.Setup.{Pollutant, Hcnox, Co, of}
+use Rattle.statistics.specs.declared.Test.{Test}
 use Rattle.year.specs.Replay.{history, is_tested, newest_in}
 use Rattle.year.proofs.Replayed.{history-length}
 use Rattle.statistics.specs.Ranges.{TestsInRange, HistoryInRange}
@@ -69,3 +71,12 @@ room q xs k i x f more fine r w =
       result = tests.0;
       fine = fine;
     }
+
+-- of both pollutants
+pub rooms : (xs : List Tested) (k i : ℕ) (x : Tested) (f : Pair Running) (t : Pair Test) → take (i + 1) xs ≡ take i xs ++ x ∷ [] → k ≤ 8192
+    → ((q : Pollutant) → HistoryInRange 40 (history q (reverse xs)))
+    → record { hcnox : f.hcnox ≡ running k (history Hcnox (reverse (take i xs))); co : f.co ≡ running k (history Co (reverse (take i xs))) }
+    → record { hcnox : t.hcnox ≡ record { result = x.results.hcnox; standard = x.standards.hcnox }; co : t.co ≡ record { result = x.results.co; standard = x.standards.co } }
+    → record { hcnox : RunningInRange k f.hcnox t.hcnox.result; co : RunningInRange k f.co t.co.result }
+rooms xs k i x f t more fine r w e =
+    record { hcnox = rw e.hcnox (room Hcnox xs k i x f.hcnox more fine (r Hcnox) w.hcnox); co = rw e.co (room Co xs k i x f.co more fine (r Co) w.co) }
