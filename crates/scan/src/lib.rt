@@ -6,7 +6,7 @@ ghost use Rattle.journal.specs.Read.{read_journal};
 ghost use Rattle.slots.specs.Scanned.{year_of, entered};
 
 use buffers::parts::is_zero;
-use journal::{JOURNAL_SIZE, SLOTS};
+use journal::{COUNT_PLACE, JOURNAL_SIZE, SLOTS, slot_place};
 use progress::Progress;
 use schedule::setup_in_range;
 use setup_decoder::{is_header, setup_in};
@@ -29,13 +29,13 @@ fn scan_events(journal: &[u8; JOURNAL_SIZE], count: usize) -> Option<Progress>
 pub fn scan_bytes(journal: &[u8; JOURNAL_SIZE]) -> Option<Progress>
     ensures { result ≡ year_of (read_journal journal.now) }
 {
-    let count = journal[24] as usize;
+    let count = usize::from(journal[COUNT_PLACE]);
     if SLOTS < count {
         return None;
     }
     let header = is_header(journal);
     let version = is_version(journal, count);
-    let unused = is_zero(&journal[32 + 8 * count..]);
+    let unused = is_zero(&journal[slot_place(count)..]);
     if !(header & version & unused) {
         return None;
     }
