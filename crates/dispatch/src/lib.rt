@@ -25,16 +25,18 @@ fn list_marks(journal: &[u8]) -> Result<Reply, Refusal>
     Ok(marks_reply(&marks[..count]))
 }
 
-// Makes a call.
+// Makes a call. It is not inlined, so that a refused line does not pay for its locals, which are zeroed at entry.
 #[tactic(auto, using(crate::proofs::Listing::marks_keep))]
+#[inline(never)]
 pub fn carry_out(journal: &mut [u8], call: CallRequest<'_>) -> Result<Reply, Refusal>
     ensures reply { replied result ≡ call_reply (call_for call.entry) journal.old }
     ensures journal_after { journal.new ≡ journal_after (call_for call.entry) journal.old }
 {
-    match call {
-        CallRequest::SetUp(setup) => set_up(journal, setup).map(status_reply),
-        CallRequest::Engine(engine) => enter_engine(journal, &engine).map(status_reply),
-        CallRequest::Change(change) => enter_change(journal, change).map(status_reply),
-        CallRequest::WriteMarks => list_marks(journal),
-    }
+    let answer = match call {
+        CallRequest::SetUp(setup) => set_up(journal, setup),
+        CallRequest::Engine(engine) => enter_engine(journal, &engine),
+        CallRequest::Change(change) => enter_change(journal, change),
+        CallRequest::WriteMarks => return list_marks(journal),
+    };
+    answer.map(status_reply)
 }
