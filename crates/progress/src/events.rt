@@ -52,7 +52,11 @@ impl Progress {
         );
         self.stored += 1;
         self.current += 1;
-        add_tests(&mut self.figures, tests_under(results, self.standards), RESOLUTION);
+        add_tests(
+            &mut self.figures,
+            tests_under(results, self.standards),
+            RESOLUTION,
+        );
     }
 
     // A deletion ("strike"): the newest engine goes, and the figures are those of the engines that remain.

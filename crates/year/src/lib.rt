@@ -124,12 +124,10 @@ impl Tested {
         ensures hcnox { result.hcnox ≡ record { result = self.results.hcnox; standard = self.standards.hcnox } }
         ensures co { result.co ≡ record { result = self.results.co; standard = self.standards.co } }
     {
-        self.results
-            .zip(self.standards)
-            .map(|(x, t)| Test {
-                result: u32::from(x),
-                standard: u32::from(t),
-            })
+        self.results.zip(self.standards).map(|(x, t)| Test {
+            result: u32::from(x),
+            standard: u32::from(t),
+        })
     }
 }
 

@@ -17,8 +17,7 @@ returns-in_err-p c =
 -- the scan found a year, and the call is not refused
 pub print_marks-requires : goal.print_marks-requires
 print_marks-requires c =
-    let h = c.in_ok-p.ensures in
-    (
+    let h = c.in_ok-p.ensures in (
       record { histories = c.p.invariant.histories; fine = omega arith },
       marks_room c.args.journal.now c.args.out.now _ h.year h.refusal _ (as_many c.p.inside c.p.invariant _ c.p.view_is),
     )
