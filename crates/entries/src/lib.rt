@@ -35,15 +35,15 @@ pub fn set_up(journal: &mut [u8], s: Setup) -> Answer
 }
 
 // Appends an event that the year admits, and gives the status of the year with it.
-fn add(journal: &mut [u8; JOURNAL_SIZE], mut p: Progress, e: Event) -> Status
+fn add(journal: &mut [u8; JOURNAL_SIZE], p: &mut Progress, e: Event) -> Status
     requires room { get_or journal.old 24 0 < 64 }
-    requires event { MayEnter e p }
-    ensures status { result ≡ status 1024 (after e p) }
+    requires event { MayEnter e p.old }
+    ensures status { result ≡ status 1024 (after e p.old) }
     ensures journal_after { journal.new ≡ append journal.old e }
 {
     append(journal, e);
     p.enter(e);
-    status_of(&p)
+    status_of(p)
 }
 
 // An engine with its number and its readings for each pollutant.
@@ -53,9 +53,9 @@ pub fn enter_engine(journal: &mut [u8], entry: &EngineEntry<'_>) -> Answer
     ensures journal_after { journal.new ≡ journal_after (Enter (entry_of entry.now)) journal.old }
 {
     let journal = journal.as_mut_array().ok_or(Refusal::JournalSize)?;
-    let p = open_year(journal)?;
+    let mut p = open_year(journal)?;
     let event = engine(&p, entry)?;
-    Ok(add(journal, p, event))
+    Ok(add(journal, &mut p, event))
 }
 
 // A change, which has no readings: an amendment, the next period, a declaration, a deletion ("strike").
@@ -66,7 +66,7 @@ pub fn enter_change(journal: &mut [u8], c: Change) -> Answer
 {
     let journal = journal.as_mut_array().ok_or(Refusal::JournalSize)?;
     check_standards(c)?;
-    let p = open_year(journal)?;
+    let mut p = open_year(journal)?;
     let event = change(&p, c)?;
-    Ok(add(journal, p, event))
+    Ok(add(journal, &mut p, event))
 }
