@@ -20,7 +20,7 @@ pub fn number_in_range(number: u32) -> bool
 pub fn results_in_range(results: Pair<u32>) -> bool
     ensures { result ≡ results_in_range results }
 {
-    results.both(|x| result_in_range(x as u64))
+    results.both(|x| result_in_range(u64::from(x)))
 }
 
 // An engine: its number is in range and new, it has 1 to 3 readings, its results are in range, and there is room for it.

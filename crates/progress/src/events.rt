@@ -7,19 +7,7 @@ use crate::Progress;
 use cumsum::RESOLUTION;
 use engines::rework::{add_tests, rework};
 use engines::store::{add_engine, no_engines, remove_newest};
-use statistics::Test;
-use year::{Event, Pair, Setup};
-
-// An engine with these results, as each pollutant sees it under these standards.
-fn tests_under(results: Pair<u32>, standards: Pair<u32>) -> Pair<Test>
-    ensures hcnox { result.hcnox ≡ record { result = results.hcnox; standard = standards.hcnox } }
-    ensures co { result.co ≡ record { result = results.co; standard = standards.co } }
-{
-    results.zip(standards).map(|(x, t)| Test {
-        result: x,
-        standard: t,
-    })
-}
+use year::{Event, Pair, Setup, tests_under};
 
 impl Progress {
     // A setup with no events, in range or not.

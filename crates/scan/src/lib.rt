@@ -47,8 +47,5 @@ pub fn scan_bytes(journal: &[u8; JOURNAL_SIZE]) -> Option<Progress>
 pub fn scan_journal(journal: &[u8]) -> Option<Progress>
     ensures { result ≡ year_of (read_journal journal.now) }
 {
-    match journal.as_array() {
-        Some(whole) => scan_bytes(whole),
-        None => None,
-    }
+    scan_bytes(journal.as_array()?)
 }

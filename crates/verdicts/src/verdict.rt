@@ -18,12 +18,9 @@ use year::Pair;
 fn first_verdict(rows: &[(bool, Verdict)]) -> Verdict
     ensures { number_of result ≡ first (map numbered rows.now) 1 }
 {
-    for row in rows {
-        if row.0 {
-            return row.1;
-        }
-    }
-    Verdict::Testing
+    rows.iter()
+        .find(|row| row.0)
+        .map_or(Verdict::Testing, |row| row.1)
 }
 
 // The current period lacks its engines.

@@ -118,16 +118,24 @@ pub struct Tested {
     pub period: u8,
 }
 
+// An engine with these results, as each pollutant sees it under these standards.
+pub fn tests_under(results: Pair<u32>, standards: Pair<u32>) -> Pair<Test>
+    ensures hcnox { result.hcnox ≡ record { result = results.hcnox; standard = standards.hcnox } }
+    ensures co { result.co ≡ record { result = results.co; standard = standards.co } }
+{
+    results.zip(standards).map(|(x, t)| Test {
+        result: x,
+        standard: t,
+    })
+}
+
 impl Tested {
     // The engine as each pollutant sees it.
     pub fn tests(self) -> Pair<Test>
         ensures hcnox { result.hcnox ≡ record { result = self.results.hcnox; standard = self.standards.hcnox } }
         ensures co { result.co ≡ record { result = self.results.co; standard = self.standards.co } }
     {
-        self.results.zip(self.standards).map(|(x, t)| Test {
-            result: u32::from(x),
-            standard: u32::from(t),
-        })
+        tests_under(self.results.map(u32::from), self.standards.map(u32::from))
     }
 }
 
