@@ -1,4 +1,4 @@
-// What the test programs share: the numbers of a line, a setup among them, how a status is printed, a digest.
+// What the test programs share: the numbers of a line, how a status is printed, a digest.
 #![tactic(auto)]
 
 ghost use Rattle.std.specs.Prelude.{◌≡◌, ◌+◌, ◌*◌, ◌%◌};
