@@ -52,7 +52,7 @@ impl Calculator {
 
     // Takes bytes of the input. If nobody reads the output, the rest of them is left.
     fn take_bytes<R: Print>(&mut self, rt: &R, bytes: &[u8]) -> io::Result<()>
-        ensures { Taken (is_ok result) bytes.now self.old.line self.old.journal self.new.line self.new.journal }
+        ensures { Taken (is_ok result) bytes.now self.old self.new }
     {
         for byte in bytes {
             self.take_byte(rt, *byte)?;
@@ -67,7 +67,7 @@ impl Calculator {
         input: &mut I,
         piece: &mut Piece,
     ) -> io::Result<()>
-        ensures { Taken (is_ok result) (take piece.new.size piece.new.space) self.old.line self.old.journal self.new.line self.new.journal }
+        ensures { Taken (is_ok result) (take piece.new.size piece.new.space) self.old self.new }
     {
         piece.size = input.read(&mut piece.space).unwrap_or(0);
         self.take_bytes(rt, &piece.space[..piece.size])
@@ -82,7 +82,7 @@ impl Calculator {
         piece: &mut Piece,
         most: u64,
     ) -> Stop
-        ensures fetched { Fetched most (goes_on result) (take piece.new.size piece.new.space) self.old.line self.old.journal self.new.line self.new.journal }
+        ensures fetched { Fetched most (goes_on result) (take piece.new.size piece.new.space) self.old self.new }
         ensures stopped { Stopped result piece.new.size }
     {
         piece.size = 0;
@@ -112,7 +112,7 @@ impl Calculator {
     fn answer_input<R: Print, I: Read>(&mut self, rt: &R, input: &mut I) -> Stop
         requires zeroed { self.old.journal ≡ zeros 544 }
         requires empty { self.old.line ≡ [] }
-        ensures { Answered result self.new.line self.new.journal }
+        ensures { Answered result self.new }
     {
         let mut piece = Piece {
             space: [0; PIECE_SIZE],

@@ -3,11 +3,9 @@ use std::alloc::Global;
 
 // The numbers of a text, with white space between them.
 fn numbers(alloc: Global, text: &str) -> anyhow::Result<Vec<u32>> {
-    let mut numbers = Vec::new(alloc);
-    for word in text.split_whitespace() {
-        numbers.push(word.parse::<u32>()?)?;
-    }
-    Ok(numbers)
+    text.split_whitespace()
+        .map(|word| -> anyhow::Result<u32> { Ok(word.parse()?) })
+        .try_collect(alloc)
 }
 
 // What stands before the first space of a line, and the numbers after it.

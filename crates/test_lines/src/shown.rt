@@ -9,12 +9,7 @@ pub struct Shown<T>(pub T);
 
 impl fmt::Display for Shown<Mark> {
     fn fmt<W: fmt::Write>(&self, f: &mut fmt::Formatter<W>) -> fmt::Result {
-        f.write_str(match self.0 {
-            Mark::Unmarked => "-",
-            Mark::Over => "O",
-            Mark::Under => "U",
-            Mark::Undecided => "?",
-        })
+        write!(f, "{}", char::from(u8::from(self.0)))
     }
 }
 

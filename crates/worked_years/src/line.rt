@@ -1,6 +1,6 @@
 // What a line asks for.
 use anyhow::bail;
-use results::result_of;
+use results::{count_in_range, result_of};
 use rounding::Factor;
 use schedule::{needs, one_percent, periods};
 use std::alloc::Global;
@@ -50,7 +50,7 @@ impl Line {
 
 // The result of an engine's readings under a factor.
 fn rounded(kind: u32, value: u32, readings: &[u32]) -> anyhow::Result<u64> {
-    if !(1..=3).contains(&readings.len()) {
+    if !count_in_range(readings.len()) {
         bail!("{} readings", readings.len());
     }
     Ok(result_of(Factor { kind, value }, readings))

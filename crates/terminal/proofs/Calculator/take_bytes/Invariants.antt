@@ -4,4 +4,4 @@ use Rattle.terminal.specs.Taken.{Kept}
 use Rattle.terminal.proofs.Calculator.take_bytes.Given as goal
 
 abbrev pub invariant-loop-byte : goal.invariant-loop-byte
-invariant-loop-byte g l = Kept (take l.byte-index l.bytes) l.initial.self.line l.initial.self.journal l.self.line l.self.journal
+invariant-loop-byte g l = Kept (take l.byte-index l.bytes) l.initial.self l.self

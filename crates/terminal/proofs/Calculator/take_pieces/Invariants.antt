@@ -5,6 +5,6 @@ use Rattle.terminal.proofs.Calculator.take_pieces.Given as goal
 
 abbrev pub invariant-loop-read : goal.invariant-loop-read
 invariant-loop-read g l = record {
-  fetched : Fetched l._read true (take l.piece.size l.piece.space) l.initial.self.line l.initial.self.journal l.self.line l.self.journal;
+  fetched : Fetched l._read true (take l.piece.size l.piece.space) l.initial.self l.self;
   none : l._read ≡ 0 → take l.piece.size l.piece.space ≡ [];
 }
