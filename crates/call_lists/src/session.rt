@@ -7,10 +7,7 @@ use reference::OutputOutcome;
 use std::alloc::Global;
 use std::io::{self, Write};
 use std::marker::Model;
-use test_lines::digested;
-
-// The array's size, sixteen bytes more than a journal's.
-const ROOM: usize = 560;
+use test_lines::{ROOM, digested};
 
 // The most bytes that a strip is lent.
 const STRIP_ROOM: usize = 100;

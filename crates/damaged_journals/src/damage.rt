@@ -4,10 +4,8 @@ ghost use Rattle.std.specs.Prelude.{◌≤◌, ◌<◌};
 use crate::tally::Tally;
 use journal::{COUNT_PLACE, HEADER_SIZE, JOURNAL_SIZE, SLOT_SIZE, SLOTS};
 use scan::scan_journal;
+use test_lines::ROOM;
 use year::MOST_EVENTS;
-
-// The longest buffer that is tried.
-const ROOM: usize = 560;
 
 pub fn accepts(journal: &[u8]) -> bool {
     scan_journal(journal).is_some()
@@ -40,7 +38,7 @@ impl Sample {
 
     // One byte changed to each other value below `end`, from the next one up, wrapping round to the one below.
     fn values(&mut self, at: usize, end: u32, tally: Tally) -> Tally
-        requires inside { at < 560 }
+        requires inside { at < ROOM }
         requires byte_value { end ≤ 256 }
     {
         let kept = self.buffer[at];

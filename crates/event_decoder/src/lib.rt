@@ -2,23 +2,12 @@
 #![tactic(auto)]
 
 ghost use Rattle.std.specs.Prelude.{◌≡◌, cond};
-ghost use Rattle.buffers.specs.Bytes.{number16};
 ghost use Rattle.journal.specs.Read.{event_in};
 ghost use Rattle.journal.specs.Acceptance.{is_slot};
 
 use buffers::little_endian::number16;
-use journal::{SLOT_SIZE, kind};
-use year::{Event, Pair};
-
-// The results of an engine's slot, or the standards of an amendment's.
-fn pair_in(slot: &[u8; SLOT_SIZE]) -> Pair<u32>
-    ensures { result ≡ record { hcnox = number16 slot.now 2; co = number16 slot.now 4 } }
-{
-    Pair {
-        hcnox: number16(slot, 2),
-        co: number16(slot, 4),
-    }
-}
+use journal::{SLOT_SIZE, kind, pair16};
+use year::Event;
 
 // The event in a slot, if it has a named kind, and its unnamed bytes are zero. (Kinds 3 to 5 share a pattern: one for each makes a scan slower.)
 #[tactic(auto, using(crate::proofs::Slots::engine, crate::proofs::Slots::amendment, crate::proofs::Slots::next_period, crate::proofs::Slots::declaration, crate::proofs::Slots::deletion, crate::proofs::Slots::no_kind))]
@@ -29,9 +18,9 @@ pub fn read_slot(slot: &[u8; SLOT_SIZE]) -> Option<Event>
         [kind::ENGINE, readings, ..] => Some(Event::Engine {
             number: number16(slot, 6),
             readings: u32::from(readings),
-            results: pair_in(slot),
+            results: pair16(slot, 2),
         }),
-        [kind::AMENDMENT, 0, .., 0, 0] => Some(Event::Amendment(pair_in(slot))),
+        [kind::AMENDMENT, 0, .., 0, 0] => Some(Event::Amendment(pair16(slot, 2))),
         [bare, 0, 0, 0, 0, 0, 0, 0] => match bare {
             kind::NEXT_PERIOD => Some(Event::NextPeriod),
             kind::DECLARATION => Some(Event::Declaration),

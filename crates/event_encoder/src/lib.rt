@@ -8,7 +8,7 @@ ghost use Rattle.event_encoder.specs.Fits.{EventFits};
 use buffers::little_endian::{bytes16, number16};
 use journal::{
     COUNT_PLACE, DELETION_VERSION, FIRST_VERSION, JOURNAL_SIZE, SLOT_SIZE, VERSION_PLACE, kind,
-    slot_place,
+    pair_bytes, slot_place,
 };
 use year::{Event, Pair};
 
@@ -16,8 +16,7 @@ use year::{Event, Pair};
 fn slot(kind: u8, readings: u8, numbers: Pair<u32>, number: u32) -> [u8; SLOT_SIZE]
     ensures { result ≡ slot (record { kind = kind; readings = readings; first = numbers.hcnox; second = numbers.co; third = number }) }
 {
-    let [h0, h1] = bytes16(numbers.hcnox);
-    let [c0, c1] = bytes16(numbers.co);
+    let [h0, h1, c0, c1] = pair_bytes(numbers);
     let [n0, n1] = bytes16(number);
     [kind, readings, h0, h1, c0, c1, n0, n1]
 }

@@ -1,9 +1,13 @@
 // The stored journal ("book" in document 01): 544 bytes for each setup and list of events. The definitions are in specs/.
 #![tactic(auto)]
 
-ghost use Rattle.std.specs.Prelude.{◌≡◌, ◌≤◌, length};
+ghost use Rattle.std.specs.Prelude.{◌≡◌, ◌≤◌, ◌<◌, ◌+◌, ◌++◌, length};
+ghost use Rattle.buffers.specs.Bytes.{bytes16, number16};
 ghost use Rattle.journal.specs.Encode.{slot_place};
 ghost use Rattle.journal.specs.Read.{slots_in};
+
+use buffers::little_endian::{bytes16, number16};
+use year::Pair;
 
 // The number of bytes in a journal.
 pub const JOURNAL_SIZE: usize = 544;
@@ -55,4 +59,24 @@ pub fn slots_in(journal: &[u8; JOURNAL_SIZE]) -> &[[u8; SLOT_SIZE]]
     ensures count { length result.now ≡ 64 }
 {
     journal[HEADER_SIZE..].as_chunks().0
+}
+
+// The two numbers of a pair, in the four bytes that start at a place: HC+NOx, then CO.
+pub fn pair16(bytes: &[u8], place: usize) -> Pair<u32>
+    requires { place + 3 < length bytes.now }
+    ensures { result ≡ record { hcnox = number16 bytes.now place; co = number16 bytes.now (place + 2) } }
+{
+    Pair {
+        hcnox: number16(bytes, place),
+        co: number16(bytes, place + 2),
+    }
+}
+
+// The four bytes of a pair, as `pair16` reads them.
+pub fn pair_bytes(numbers: Pair<u32>) -> [u8; 4]
+    ensures { result ≡ bytes16 numbers.hcnox ++ bytes16 numbers.co }
+{
+    let [h0, h1] = bytes16(numbers.hcnox);
+    let [c0, c1] = bytes16(numbers.co);
+    [h0, h1, c0, c1]
 }

@@ -7,7 +7,7 @@ ghost use Rattle.journal.specs.Acceptance.{is_header};
 
 use buffers::little_endian::{number16, number32};
 use buffers::parts::is_zero;
-use journal::HEADER_SIZE;
+use journal::{HEADER_SIZE, pair16};
 use rounding::Factor;
 use year::{Pair, Setup};
 
@@ -19,20 +19,16 @@ pub fn setup_in(journal: &[u8]) -> Setup
     Setup {
         volume: number32(journal, 8),
         days: number16(journal, 12),
-        standards: Pair {
-            hcnox: number16(journal, 14),
-            co: number16(journal, 16),
-        },
+        standards: pair16(journal, 14),
         factors: Pair {
-            hcnox: Factor {
-                kind: u32::from(journal[18]),
-                value: number16(journal, 20),
-            },
-            co: Factor {
-                kind: u32::from(journal[19]),
-                value: number16(journal, 22),
-            },
-        },
+            hcnox: journal[18],
+            co: journal[19],
+        }
+        .zip(pair16(journal, 20))
+        .map(|(kind, value)| Factor {
+            kind: u32::from(kind),
+            value,
+        }),
     }
 }
 

@@ -6,7 +6,7 @@ ghost use Rattle.journal.specs.Encode.{setup_version, header, encode};
 ghost use Rattle.setup_encoder.specs.Fits.{SetupFits};
 
 use buffers::little_endian::{bytes16, bytes32};
-use journal::{FIRST_VERSION, HEADER_SIZE, JOURNAL_SIZE, VERSION_PLACE};
+use journal::{FIRST_VERSION, HEADER_SIZE, JOURNAL_SIZE, VERSION_PLACE, pair_bytes};
 use year::Setup;
 
 // The first 32 bytes: "PLT", version 1, the setup, and no events.
@@ -19,12 +19,10 @@ fn header(s: Setup) -> [u8; HEADER_SIZE]
     header[VERSION_PLACE] = FIRST_VERSION;
     header[8..12].copy_from_slice(&bytes32(s.volume));
     header[12..14].copy_from_slice(&bytes16(s.days));
-    header[14..16].copy_from_slice(&bytes16(s.standards.hcnox));
-    header[16..18].copy_from_slice(&bytes16(s.standards.co));
+    header[14..18].copy_from_slice(&pair_bytes(s.standards));
     header[18] = s.factors.hcnox.kind as u8;
     header[19] = s.factors.co.kind as u8;
-    header[20..22].copy_from_slice(&bytes16(s.factors.hcnox.value));
-    header[22..24].copy_from_slice(&bytes16(s.factors.co.value));
+    header[20..24].copy_from_slice(&pair_bytes(s.factors.map(|factor| factor.value)));
     header
 }
 

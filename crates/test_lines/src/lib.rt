@@ -1,10 +1,13 @@
-// What the test programs share: the numbers of a line, how a status is printed, a digest.
+// What the test programs share: the numbers of a line, how a status is printed, a digest, an array's size.
 #![tactic(auto)]
 
 ghost use Rattle.std.specs.Prelude.{◌≡◌, ◌+◌, ◌*◌, ◌%◌};
 
 pub mod numbers;
 pub mod shown;
+
+// The size of the array that a test program lends from, sixteen bytes more than a journal's.
+pub const ROOM: usize = 560;
 
 // What a digest is taken by.
 pub const MODULUS: u64 = 4294967291;
