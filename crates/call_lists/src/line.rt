@@ -1,5 +1,5 @@
 // What a line asks for.
-use crate::calls::Call;
+use crate::calls::{Call, Engine};
 use anyhow::{Context, bail};
 use reference::Change;
 use std::alloc::Global;
@@ -28,16 +28,8 @@ impl Line {
             ("W", &[place, byte]) => Line::Write(place as usize, u8::try_from(byte)?),
             ("L", &[size]) => Line::Strip(size as usize),
             ("S", setup) => Line::Call(Call::SetUp(Setup::from(<[u32; 8]>::try_from(setup)?))),
-            ("E", &[number, count, _, ref readings @ ..]) => {
-                let (hcnox, co) = readings
-                    .split_at_checked(count as usize)
-                    .context("too few readings")?;
-                Line::Call(Call::Engine {
-                    number,
-                    hcnox: hcnox.to_vec(alloc)?,
-                    co: co.to_vec(alloc)?,
-                })
-            }
+            ("E", numbers) => Line::Call(Call::Engine(engine(alloc, numbers)?)),
+            ("T", numbers) => Line::Call(Call::Preview(engine(alloc, numbers)?)),
             ("A", &[hcnox, co]) => Line::Call(Call::Change(Change::Amend(Pair { hcnox, co }))),
             ("P", []) => Line::Call(Call::Change(Change::BeginPeriod)),
             ("X", []) => Line::Call(Call::Change(Change::Declare)),
@@ -46,4 +38,21 @@ impl Line {
             _ => bail!("no such line: {line}"),
         })
     }
+}
+
+// An engine's number, how many readings it has for each pollutant, and the readings.
+fn engine(alloc: Global, numbers: &[u32]) -> anyhow::Result<Engine> {
+    let &[number, count, _, ref readings @ ..] = numbers else {
+        bail!("too few numbers");
+    };
+    let (hcnox, co) = readings
+        .split_at_checked(count as usize)
+        .context("too few readings")?;
+    Ok(Engine {
+        number,
+        readings: Pair {
+            hcnox: hcnox.to_vec(alloc)?,
+            co: co.to_vec(alloc)?,
+        },
+    })
 }

@@ -7,7 +7,7 @@ use lib.ListN.{length, take}
 use Rattle.buffers.specs.Bytes.{put}
 use Rattle.buffers.proofs.Lists.{take_put}
 use Rattle.journal.specs.Read.{read_journal}
-use Rattle.reference.specs.Call.{Marks, Write, Ask}
+use Rattle.reference.specs.Call.{Marks, Query, Write, Ask}
 use Rattle.reference.specs.Answers.{refusal_on, journal_after, out_bytes, out_after, output_answer}
 use Rattle.reference.specs.declared.Refusal.{Refusal}
 use Rattle.reference.specs.Refused.{number_of}
@@ -19,9 +19,9 @@ use Rattle.reference.proofs.Given.{accepted-gives, refused-gives}
 use Rattle.reference.proofs.Demand1.{demand-1, out-fits}
 use Rattle.protocol.specs.Reply.{refusal_reply, marks_reply, query_reply}
 
--- a marks call leaves the journal unchanged
-pub marks_keep : (journal : List ℕ) → journal ≡ journal_after (Ask (Write Marks 80)) journal
-marks_keep journal = sym (demand-1.query_kept (Write Marks 80) journal)
+-- a query leaves the journal unchanged
+pub query_keeps : (query : Query) (journal : List ℕ) → journal ≡ journal_after (Ask query) journal
+query_keeps query journal = sym (demand-1.query_kept query journal)
 
 -- what a marks call on 80 bytes gives, and the reply to it
 module _ (journal : List ℕ) where

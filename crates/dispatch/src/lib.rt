@@ -7,7 +7,7 @@ ghost use Rattle.protocol.specs.Reply.{query_reply, call_reply, replied};
 ghost use Rattle.reference.specs.Answers.{journal_after};
 ghost use Rattle.parser.specs.Request.{call_for};
 
-use entries::{enter_change, enter_engine, set_up};
+use entries::{enter_change, enter_engine, preview_engine, set_up};
 use parser::CallRequest;
 use queries::write_marks;
 use reference::Refusal;
@@ -26,7 +26,7 @@ fn list_marks(journal: &[u8]) -> Result<Reply, Refusal>
 }
 
 // Makes a call. It is not inlined, so that a refused line does not pay for its locals, which are zeroed at entry.
-#[tactic(auto, using(crate::proofs::Listing::marks_keep))]
+#[tactic(auto, using(crate::proofs::Listing::query_keeps))]
 #[inline(never)]
 pub fn carry_out(journal: &mut [u8], call: CallRequest<'_>) -> Result<Reply, Refusal>
     ensures reply { replied result ≡ call_reply (call_for call.entry) journal.old }
@@ -35,6 +35,7 @@ pub fn carry_out(journal: &mut [u8], call: CallRequest<'_>) -> Result<Reply, Ref
     let answer = match call {
         CallRequest::SetUp(setup) => set_up(journal, setup),
         CallRequest::Engine(engine) => enter_engine(journal, &engine),
+        CallRequest::Preview(engine) => preview_engine(journal, &engine),
         CallRequest::Change(change) => enter_change(journal, change),
         CallRequest::WriteMarks => return list_marks(journal),
     };

@@ -1,6 +1,6 @@
-// The public calls that write the journal: setup, and the entries of an engine and of a change. None has a precondition, on its arguments or on lent buffers.
-// Each contract gives the whole answer (its value, and its refusal number and figures as in the specification, `outcome`) and every byte of each buffer that the
-// call may write, refused or not.
+// The public calls that write the journal: setup, and the entries of an engine and of a change; and the preview of an engine, which answers as its entry would and
+// writes nothing. None has a precondition, on its arguments or on lent buffers. Each contract gives the whole answer (its value, and its refusal number and figures
+// as in the specification, `outcome`) and every byte of each buffer that the call may write, refused or not.
 #![tactic(auto)]
 
 ghost use Rattle.std.specs.Prelude.{◌≡◌, ◌<◌, get_or};
@@ -8,7 +8,7 @@ ghost use Rattle.year.specs.Replay.{after};
 ghost use Rattle.year.specs.Status.{status};
 ghost use Rattle.progress.specs.State.{MayEnter};
 ghost use Rattle.journal.specs.Encode.{append};
-ghost use Rattle.reference.specs.Call.{entry_of, EnterChange, SetUp, Enter};
+ghost use Rattle.reference.specs.Call.{entry_of, preview_of, EnterChange, SetUp, Enter, Ask};
 ghost use Rattle.reference.specs.Answers.{journal_after, answer, outcome_of, outcome};
 
 use change_decision::{change, check_standards};
@@ -46,7 +46,19 @@ fn add(journal: &mut [u8; JOURNAL_SIZE], p: &mut Progress, e: Event) -> Status
     status_of(p)
 }
 
-// An engine with its number and its readings for each pollutant.
+// The preview of an engine with its number and its readings for each pollutant (document 02, W-202: it "only asks").
+pub fn preview_engine(journal: &[u8], entry: &EngineEntry<'_>) -> Answer
+    ensures answer { result ≡ answer (Ask (preview_of entry.now)) journal.now }
+    ensures outcome { outcome_of result ≡ outcome (Ask (preview_of entry.now)) journal.now }
+{
+    let journal = journal.as_array().ok_or(Refusal::JournalSize)?;
+    let mut year = open_year(journal)?;
+    let asked = engine(&year, entry)?;
+    year.enter(asked);
+    Ok(status_of(&year))
+}
+
+// The entry of such an engine.
 pub fn enter_engine(journal: &mut [u8], entry: &EngineEntry<'_>) -> Answer
     ensures answer { result ≡ answer (Enter (entry_of entry.now)) journal.old }
     ensures outcome { outcome_of result ≡ outcome (Enter (entry_of entry.now)) journal.old }

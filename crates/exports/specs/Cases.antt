@@ -6,11 +6,12 @@ use Rattle.ascii.specs.Text.{byte, text}
 use Rattle.cumsum.specs.declared.Mark.TheVariants.{Under, Undecided}
 use Rattle.year.specs.declared.Status.{Status}
 use Rattle.year.specs.declared.Event.TheVariants.{Declaration}
-use Rattle.year.specs.Cases.{setup_of, engine}
+use Rattle.year.specs.Cases.{setup_of, engine, only_sum}
 use Rattle.journal.specs.Encode.{encode}
 use Rattle.reference.specs.Call.{ReadStatus, Ask}
 use Rattle.reference.specs.Answers.{no_status}
 use Rattle.reference.specs.Cases.{engine_one}
+use Rattle.reference.specs.CasesOfPreview.{preview_one}
 use Rattle.exports.specs.Numbers.{status_numbers}
 use Rattle.exports.specs.Exports.{reply_count, reply_left, line_left, refusal_given, figures_left, journal_left}
 
@@ -62,4 +63,9 @@ pub record Cases : Type 0 where
   pub figures_kept : figures_left (Ask ReadStatus) [] (replicate 19 7) ≡ replicate 19 7
   -- an accepted engine is in the journal; with room for nineteen figures nothing is done
   pub entered : journal_left engine_one (encode 1 (setup_of 5000 800) []) (zeros 20) ≡ encode 1 (setup_of 5000 800) (engine 1 998 ∷ [])
+  -- the same engine asked about (document 02, W-202): the same figures, and the journal as it was
+  pub asked : refusal_given preview_one (encode 1 (setup_of 5000 800) []) (zeros 20) ≡ 0
+  pub figures_asked : figures_left preview_one (encode 1 (setup_of 5000 800) []) (zeros 20)
+      ≡ status_numbers (record { n = 1; verdict = 0; figures = record { hcnox = only_sum 998; co = only_sum 5000 } })
+  pub asked_kept : journal_left preview_one (encode 1 (setup_of 5000 800) []) (zeros 20) ≡ encode 1 (setup_of 5000 800) []
   pub not_entered : journal_left engine_one (encode 1 (setup_of 5000 800) []) (zeros 19) ≡ encode 1 (setup_of 5000 800) []

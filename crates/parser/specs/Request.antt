@@ -5,12 +5,13 @@ use Rattle.reference.specs.Refused.{number_of}
 use Rattle.reference.specs.declared.Refusal.{Refusal}
 use Rattle.protocol.specs.KeyLine as lines
 use Rattle.parser.specs.declared.CallRequest.{CallRequest}
-use Rattle.parser.specs.declared.CallRequest.TheVariants.{SetUp, Engine, Change, WriteMarks}
+use Rattle.parser.specs.declared.CallRequest.TheVariants.{SetUp, Engine, Preview, Change, WriteMarks}
 
 -- the call of a request, and the command
 abbrev pub call_for : CallRequest → calls.Call
 call_for (SetUp s) = calls.SetUp s
 call_for (Engine engine) = calls.Enter (calls.entry_of engine)
+call_for (Preview engine) = calls.Ask (calls.preview_of engine)
 call_for (Change change) = calls.Enter (calls.EnterChange change)
 call_for WriteMarks = calls.Ask (calls.Write calls.Marks 80)
 

@@ -1,16 +1,16 @@
-// Production-line testing for programs in other languages: the key line, an engine's entry, status and the marks, on a lent journal. include/plt.h has the same
+// Production-line testing for programs in other languages: the key line, an engine's entry and its preview, status and the marks, on a lent journal. include/plt.h has the same
 // functions for C. A slice is a pointer and a length. There is no precondition on what is lent, and the contracts give every byte and number of it.
 #![tactic(auto)]
 
 ghost use Rattle.std.specs.Prelude.{◌≡◌, ◌<◌};
-ghost use Rattle.reference.specs.Call.{engine_entry, Marks, ReadStatus, Enter, Ask};
+ghost use Rattle.reference.specs.Call.{engine_entry, engine_preview, Marks, ReadStatus, Enter, Ask};
 ghost use Rattle.reference.specs.Answers.{out_after, output_outcome};
 ghost use Rattle.exports.specs.Exports.{reply_count, reply_left, line_left, refusal_given, figures_left, journal_left};
 
 use answers::put_answer;
 use buffers::front::put_front;
 use commands::reply;
-use entries::enter_engine;
+use entries::{enter_engine, preview_engine};
 use exports::FIGURE_COUNT;
 use protocol::REPLY_SIZE;
 use queries::{read_status, write_marks};
@@ -61,6 +61,29 @@ pub extern "C" fn plt_engine(
         readings: Pair { hcnox, co },
     };
     put_answer(figures, enter_engine(journal, &engine))
+}
+
+// The preview of an engine: returns and writes what `plt_engine` would on the same journal, and leaves the journal.
+#[tactic(auto, unfolding(exports::specs::Exports::refusal_given, exports::specs::Exports::figures_left, exports::specs::Exports::journal_left))]
+#[unsafe(no_mangle)]
+pub extern "C" fn plt_ask(
+    journal: &[u8],
+    number: u32,
+    hcnox: &[u32],
+    co: &[u32],
+    figures: &mut [u64],
+) -> u8
+    ensures refusal { result ≡ refusal_given (Ask (engine_preview number hcnox.now co.now)) journal.now figures.old }
+    ensures figures_after { figures.new ≡ figures_left (Ask (engine_preview number hcnox.now co.now)) journal.now figures.old }
+{
+    if figures.len() < FIGURE_COUNT {
+        return TOO_FEW_FIGURES;
+    }
+    let engine = EngineEntry {
+        number,
+        readings: Pair { hcnox, co },
+    };
+    put_answer(figures, preview_engine(journal, &engine))
 }
 
 // Status: returns the refusal, 0 for none, and writes the figures. With room for under twenty figures, does nothing and returns 255.

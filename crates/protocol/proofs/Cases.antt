@@ -33,12 +33,18 @@ struck-run : run (text "S 5000 365 800 6100 0 0 0 0\nZ\nE 1 998000 5000000\nZ\nL
 unfolding put nearest_even variation t95 sample_size size_reached compared failed undecided periods needs verdict closed admissible can_hold append read_as refusals refusal journal_after answer out_part digits spelt is_number number_at spaced_number numbers_from call_of command_of decimal_up_to decimal reply_to journal_after_line
 struck-run = refl
 
+asked-run : run (text "S 5000 365 800 6100 0 0 0 0\nT 1 998000 5000000\nT 1 900000 5000000\nL\nE 1 998000 5000000\nT 1 998000 5000000\nT 2 1\n")
+    ≡ text "OK 0 0 -- - -\nOK 1 0 -- - -\nOK 1 0 -- - -\nOK\nOK 1 0 -- - -\nNO 10\nNO 2\n"
+unfolding put nearest_even variation t95 sample_size size_reached compared failed undecided periods needs verdict closed admissible can_hold append read_as refusals refusal journal_after answer out_part digits spelt is_number number_at spaced_number numbers_from call_of command_of decimal_up_to decimal reply_to journal_after_line
+asked-run = refl
+
 pub cases : Cases
 unfolding digits spelt is_number number_at number_outcome spaced_number spaced_outcome numbers_from call_of command_of decimal_up_to decimal
 cases =
     record {
       setup = refl;
       engine = refl;
+      preview = refl;
       amendment = refl;
       period = refl;
       declaration = refl;
@@ -55,6 +61,10 @@ cases =
       no_readings = refl;
       eight_readings = refl;
       odd_readings = refl;
+      previewed_four = refl;
+      previewed_none = refl;
+      previewed_odd = refl;
+      previewed_nothing = refl;
       no_number = refl;
       eight_digits = refl;
       nine_digits = refl;
@@ -82,8 +92,11 @@ cases =
       other_letter = refl;
       small_letter = refl;
       small_deletion = refl;
+      small_preview = refl;
       empty_line = refl;
       bytes64 = refl;
+      previewed64 = refl;
+      previewed65 = refl;
       bytes65 = refl;
       two_lines = refl;
       three_lines = refl;
@@ -93,4 +106,5 @@ cases =
       long_line = long-line;
       document_run = document-run;
       struck_run = struck-run;
+      asked_run = asked-run;
     }

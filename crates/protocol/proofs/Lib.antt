@@ -3,4 +3,5 @@ pub mod Cases
 pub mod Run
 pub mod Steps
 pub mod Session
+pub mod Preview
 pub mod Console

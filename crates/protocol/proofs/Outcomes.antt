@@ -1,12 +1,11 @@
 -- A number's answer, put in document 01's numbers, is what the line defines.
-use mathlib.Core.Path.{◌≡◌, refl, ap, ◌∙◌}
+use mathlib.Core.Path.{◌≡◌, refl}
 use mathlib.Core.Bool.{Bool, true, false, cond}
 use mathlib.Core.List.{List}
 use Prim.Native.Nat.{ℕ, ◌+◌}
 use lib.ListN.{take, drop}
 use Rattle.ascii.specs.Decimal.{digits, spelt}
-use Rattle.protocol.specs.declared.Number.{Number}
-use Rattle.std.specs.Prelude.{Option, Some, None}
+use Rattle.std.specs.Prelude.{Some, None}
 use Rattle.protocol.specs.Number.{is_number, number_at, number_outcome_of, number_outcome}
 use Rattle.protocol.specs.KeyLine.{space_at, spaced_number, spaced_outcome}
 

@@ -5,13 +5,12 @@ use mathlib.Core.List.{List, [], ◌∷◌}
 use Prim.Native.Nat.{ℕ}
 use lib.Dec.{eqb}
 use borrow.Author.Tests.{eqb-false}
-use Rattle.conditions.proofs.Tests.{cond_same}
 use Rattle.year.specs.Model.{Model}
 use Rattle.journal.specs.Encode.{encode, version_in}
 use Rattle.journal.proofs.OneJournal.{demand}
 use Rattle.std.specs.Prelude.{Ok, Err}
 use Rattle.reference.specs.Refused.{named}
-use Rattle.reference.specs.Call.{Query, ReadStatus, Write, Call, SetUp, Enter, Ask}
+use Rattle.reference.specs.Call.{ReadStatus, Write, Preview, Call, SetUp, Enter, Ask, previewed}
 use Rattle.reference.specs.Refusals.{refusal}
 use Rattle.reference.specs.Answers.{status_of, answer}
 use Rattle.reference.specs.Model.{step_model, model_of, journal_of}
@@ -19,6 +18,7 @@ use Rattle.reference.specs.Stored.{Holds}
 use Rattle.reference.proofs.Refused.{named-number}
 use Rattle.reference.proofs.Stored.{stored-calls}
 use Rattle.reference.proofs.Untouched.{untouched}
+use Rattle.reference.proofs.Preview.{query-leaves}
 use Rattle.protocol.specs.KeyLine.{Command, Make, Refuse, command_of}
 use Rattle.protocol.specs.Reply.{refusal_reply, answer_reply, call_reply, command_reply, command_after, reply_to, journal_after_line}
 use Rattle.protocol.specs.Run.{replies, journal_after_lines}
@@ -36,25 +36,21 @@ module _ (calls : List Call) where
   holds = stored-calls.every calls
 
   status-reply : (call : Call) → answer_reply (answer call journal)
-      ≡ cond (eqb (refusal 544 call model) 0) (answer_reply (Ok (status_of (step_model call model)))) (refusal_reply (refusal 544 call model))
+      ≡ cond (eqb (refusal 544 call model) 0) (answer_reply (Ok (status_of (step_model (previewed call) model)))) (refusal_reply (refusal 544 call model))
   unfolding answer
-  status-reply call = rw (holds.size, holds.reads, (stored-calls.every (call ∷ calls)).reads) (by (eqb (refusal 544 call model) 0) refl)
+  status-reply call = rw (holds.size, holds.reads, (stored-calls.every (previewed call ∷ calls)).reads) (by (eqb (refusal 544 call model) 0) refl)
     where
-      by : (b : Bool) → eqb (refusal 544 call model) 0 ≡ b → answer_reply (cond b (Ok (status_of (step_model call model))) (Err (named (refusal 544 call model))))
-          ≡ cond b (answer_reply (Ok (status_of (step_model call model)))) (refusal_reply (refusal 544 call model))
+      by : (b : Bool) → eqb (refusal 544 call model) 0 ≡ b → answer_reply (cond b (Ok (status_of (step_model (previewed call) model))) (Err (named (refusal 544 call model))))
+          ≡ cond b (answer_reply (Ok (status_of (step_model (previewed call) model)))) (refusal_reply (refusal 544 call model))
       by true e = refl
       by false e = ap refusal_reply (named-number 544 call model (eqb-false (refusal 544 call model) 0 e))
-
-  -- a query leaves the state unchanged, accepted or not
-  query-leaves : (query : Query) → step_model (Ask query) model ≡ model
-  unfolding step_model
-  query-leaves query = cond_same (eqb (refusal 544 (Ask query) model) 0) model
 
   call-reply : (call : Call) → call_reply call journal ≡ model_reply (Make call) model
   call-reply (SetUp s) = status-reply (SetUp s)
   call-reply (Enter entry) = status-reply (Enter entry)
   call-reply (Ask ReadStatus) = status-reply (Ask ReadStatus)
-  call-reply (Ask (Write form size)) = rw (holds.size, holds.reads, query-leaves (Write form size))
+  call-reply (Ask (Preview number readings)) = status-reply (Ask (Preview number readings))
+  call-reply (Ask (Write form size)) = rw (holds.size, holds.reads, query-leaves (Write form size) model)
 
   command-reply : (command : Command) → command_reply command journal ≡ model_reply command model
   command-reply (Make call) = call-reply call

@@ -5,7 +5,7 @@ use Rattle.cumsum.specs.declared.Mark.{Mark}
 use Rattle.cumsum.specs.declared.Mark.TheVariants.{Under, Undecided}
 use Rattle.year.specs.declared.Figures.{Figures}
 use Rattle.year.specs.Cases.{pair, setup_of}
-use Rattle.reference.specs.Call.{EnterEngine, EnterChange, Marks, Write, SetUp, Enter, Ask}
+use Rattle.reference.specs.Call.{EnterEngine, EnterChange, Marks, Write, Preview, SetUp, Enter, Ask}
 use Rattle.reference.specs.declared.Change.TheVariants.{Amend, BeginPeriod, Declare, Delete}
 use Rattle.protocol.specs.Number.{number_outcome}
 use Rattle.protocol.specs.KeyLine.{spaced_outcome, Make, Refuse, command_of}
@@ -29,6 +29,7 @@ pub record Cases : Type 0 where
   -- each letter
   pub setup : command_of (text "S 5000 365 800 6100 0 0 0 0") ≡ Make (SetUp (setup_of 5000 800))
   pub engine : command_of (text "E 1 998000 5000000") ≡ Make (Enter (EnterEngine 1 (record { hcnox = 998000 ∷ []; co = 5000000 ∷ [] })))
+  pub preview : command_of (text "T 1 998000 5000000") ≡ Make (Ask (Preview 1 (record { hcnox = 998000 ∷ []; co = 5000000 ∷ [] })))
   pub amendment : command_of (text "A 800 6100") ≡ Make (Enter (EnterChange (Amend (pair 800 6100))))
   pub period : command_of (text "P") ≡ Make (Enter (EnterChange BeginPeriod))
   pub declaration : command_of (text "X") ≡ Make (Enter (EnterChange Declare))
@@ -51,6 +52,11 @@ pub record Cases : Type 0 where
   pub many_readings : command_of (text "E 1 2 2 2 2 2 2 2 2 2 2 2 2 2 2 2 3 3 3 3 3 3 3 3 3 3 3 3 3 3 3")
       ≡ Make (Enter (EnterEngine 1 (record { hcnox = replicate 15 2; co = replicate 15 3 })))
   pub odd_readings : command_of (text "E 7 1 2 3") ≡ Refuse 2
+  -- T has E's numbers: the HC+NOx readings first, an even count of readings judged by the call, an odd one or no engine number refused by 2
+  pub previewed_four : command_of (text "T 7 1 2 3 4") ≡ Make (Ask (Preview 7 (record { hcnox = 1 ∷ 2 ∷ []; co = 3 ∷ 4 ∷ [] })))
+  pub previewed_none : command_of (text "T 7") ≡ Make (Ask (Preview 7 (record { hcnox = []; co = [] })))
+  pub previewed_odd : command_of (text "T 7 1 2 3") ≡ Refuse 2
+  pub previewed_nothing : command_of (text "T") ≡ Refuse 2
   pub no_number : command_of (text "E") ≡ Refuse 2
   -- 1 to 8 digits, no leading zero but in 0
   pub eight_digits : command_of (text "A 99999999 0") ≡ Make (Enter (EnterChange (Amend (pair 99999999 0))))
@@ -80,14 +86,18 @@ pub record Cases : Type 0 where
   pub number_after_marks : command_of (text "L 1") ≡ Refuse 2
   pub number_after_deletion : command_of (text "Z 1") ≡ Refuse 2
   pub number_after_period : command_of (text "P 1") ≡ Refuse 2
-  pub other_letter : command_of (text "T 1") ≡ Refuse 2
-  pub letter_alone : command_of (text "T") ≡ Refuse 2
+  pub other_letter : command_of (text "Y 1") ≡ Refuse 2
+  pub letter_alone : command_of (text "Y") ≡ Refuse 2
   pub small_letter : command_of (text "p") ≡ Refuse 2
   pub small_deletion : command_of (text "z") ≡ Refuse 2
+  pub small_preview : command_of (text "t 1 998000 5000000") ≡ Refuse 2
   pub empty_line : command_of [] ≡ Refuse 2
   -- 64 bytes are read, 65 are not
   pub bytes64 : command_of (text "E 1 11111111 11111111 11111111 11111111 11111111 11111111 2222 3")
       ≡ Make (Enter (EnterEngine 1 (record { hcnox = 11111111 ∷ 11111111 ∷ 11111111 ∷ 11111111 ∷ []; co = 11111111 ∷ 11111111 ∷ 2222 ∷ 3 ∷ [] })))
+  pub previewed64 : command_of (text "T 1 11111111 11111111 11111111 11111111 11111111 11111111 2222 3")
+      ≡ Make (Ask (Preview 1 (record { hcnox = 11111111 ∷ 11111111 ∷ 11111111 ∷ 11111111 ∷ []; co = 11111111 ∷ 11111111 ∷ 2222 ∷ 3 ∷ [] })))
+  pub previewed65 : command_of (text "T 1 11111111 11111111 11111111 11111111 11111111 11111111 2222 33") ≡ Refuse 1
   pub bytes65 : command_of (text "E 1 11111111 11111111 11111111 11111111 11111111 11111111 2222 33") ≡ Refuse 1
   -- the newline may be missing at the end of the input, and only there
   pub two_lines : lines_of (text "P\nX") ≡ text "P" ∷ text "X" ∷ []
@@ -103,6 +113,9 @@ pub record Cases : Type 0 where
   -- document 01, "Input and print of a whole run"
   pub document_run : run (text "S 5000 365 800 6100 0 0 0 0\nE 1 998000 5000000\nE 2 1071000 5000000\nE 3 900000 5000000\nL\nX\nE 4 1 1\n")
       ≡ text "OK 0 0 -- - -\nOK 1 0 -- - -\nOK 2 1 ?U 30 10\nOK 3 1 UU 28 10\nOK --?UUU\nOK 3 7 UU 28 10\nNO 8\n"
+  -- document 02, W-202: two engines asked about, one of them entered, and asked about again, where the number is in the book
+  pub asked_run : run (text "S 5000 365 800 6100 0 0 0 0\nT 1 998000 5000000\nT 1 900000 5000000\nL\nE 1 998000 5000000\nT 1 998000 5000000\nT 2 1\n")
+      ≡ text "OK 0 0 -- - -\nOK 1 0 -- - -\nOK 1 0 -- - -\nOK\nOK 1 0 -- - -\nNO 10\nNO 2\n"
   -- document 02, W-201: a strike with no engine, an engine, its strike, no marks, the same engine again
   pub struck_run : run (text "S 5000 365 800 6100 0 0 0 0\nZ\nE 1 998000 5000000\nZ\nL\nE 1 998000 5000000\n")
       ≡ text "OK 0 0 -- - -\nNO 17\nOK 1 0 -- - -\nOK 0 0 -- - -\nOK\nOK 1 0 -- - -\n"

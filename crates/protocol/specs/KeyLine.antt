@@ -2,7 +2,7 @@
 use Rattle.std.specs.Prelude.{Bool, cond, List, [], ◌∷◌, ℕ, zero, suc, ◌+◌, ◌/◌, ◌%◌, ltb, eqb, length, get_or, take, drop, Option, Some, None}
 use Rattle.ascii.specs.Text.{byte}
 use Rattle.year.specs.declared.Setup.{Setup}
-use Rattle.reference.specs.Call.{Entry, EnterEngine, EnterChange, Marks, Write, Call, SetUp, Enter, Ask}
+use Rattle.reference.specs.Call.{Readings, EnterEngine, EnterChange, Marks, Write, Preview, Call, SetUp, Enter, Ask}
 use Rattle.reference.specs.declared.Change.{Change}
 use Rattle.reference.specs.declared.Change.TheVariants.{Amend, BeginPeriod, Declare, Delete}
 use Rattle.protocol.specs.declared.Number.{Number}
@@ -47,9 +47,12 @@ setup_from vs =
           };
     }
 
--- "E: engine number, its HC+NOx readings, as many CO readings."
-abbrev pub engine_from : List ℕ → Entry
-engine_from vs = EnterEngine (get_or vs 0 0) (record { hcnox = take (length vs / 2) (drop 1 vs); co = drop (length vs / 2) (drop 1 vs) })
+-- "E: engine number, its HC+NOx readings, as many CO readings." "Key T, with E's numbers, only asks" (document 02, W-202)
+abbrev pub number_from : List ℕ → ℕ
+number_from vs = get_or vs 0 0
+
+abbrev pub readings_from : List ℕ → Readings
+readings_from vs = record { hcnox = take (length vs / 2) (drop 1 vs); co = drop (length vs / 2) (drop 1 vs) }
 
 -- "A: two standards."
 abbrev pub amendment_from : List ℕ → Change
@@ -72,12 +75,13 @@ of_pairs vs call = cond (eqb (length vs % 2) 1) (Some call) None
 unfoldable pub call_of : ℕ → List ℕ → Option Call
 call_of letter vs =
     cond (eqb letter (byte "S")) (of_count 8 vs (SetUp (setup_from vs)))
-    (cond (eqb letter (byte "E")) (of_pairs vs (Enter (engine_from vs)))
+    (cond (eqb letter (byte "E")) (of_pairs vs (Enter (EnterEngine (number_from vs) (readings_from vs))))
+    (cond (eqb letter (byte "T")) (of_pairs vs (Ask (Preview (number_from vs) (readings_from vs))))
     (cond (eqb letter (byte "A")) (change_of 2 vs (amendment_from vs))
     (cond (eqb letter (byte "P")) (change_of 0 vs BeginPeriod)
     (cond (eqb letter (byte "X")) (change_of 0 vs Declare)
     (cond (eqb letter (byte "Z")) (change_of 0 vs Delete)
-    (cond (eqb letter (byte "L")) (of_count 0 vs (Ask (Write Marks 80))) None))))))
+    (cond (eqb letter (byte "L")) (of_count 0 vs (Ask (Write Marks 80))) None)))))))
 
 -- what a line asks for: a call, or a refusal by 1 or 2
 pub data Command : Type 0 where

@@ -4,4 +4,5 @@ pub mod Reply
 pub mod Run
 pub mod Console
 pub mod Session
+pub mod Preview
 pub mod Cases

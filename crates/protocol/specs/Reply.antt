@@ -7,7 +7,7 @@ use Rattle.year.specs.declared.Status.{Status}
 use Rattle.journal.specs.Read.{read_journal}
 use Rattle.reference.specs.declared.Refusal.{Refusal}
 use Rattle.reference.specs.Refused.{number_of}
-use Rattle.reference.specs.Call.{Form, Marks, Query, ReadStatus, Write, Call, SetUp, Enter, Ask}
+use Rattle.reference.specs.Call.{Form, Marks, Query, ReadStatus, Write, Preview, Call, SetUp, Enter, Ask}
 use Rattle.reference.specs.Answers.{refusal_on, if_accepted, answer, journal_after, out_bytes}
 use Rattle.protocol.specs.KeyLine.{Command, Make, Refuse, command_of}
 
@@ -50,6 +50,7 @@ replied (Err refusal) = refusal_reply (number_of refusal)
 -- the reply to a call on a journal: the marks for a marks call, the status for any other
 abbrev pub query_reply : Query → List ℕ → List ℕ
 query_reply ReadStatus journal = answer_reply (answer (Ask ReadStatus) journal)
+query_reply (Preview number readings) journal = answer_reply (answer (Ask (Preview number readings)) journal)
 query_reply (Write form size) journal =
     if_accepted (Ask (Write form size)) journal (out_reply form (out_bytes form (read_journal journal))) (refusal_reply (refusal_on (Ask (Write form size)) journal))
 

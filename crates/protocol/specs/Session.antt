@@ -5,7 +5,7 @@ use Rattle.year.specs.declared.Setup.{Setup}
 use Rattle.year.specs.declared.Event.{Event}
 use Rattle.year.specs.Model.{Model, NoSetup, Year}
 use Rattle.journal.specs.Encode.{version, encode}
-use Rattle.reference.specs.Call.{Query, ReadStatus, Write, Call, SetUp, Enter, Ask}
+use Rattle.reference.specs.Call.{Query, ReadStatus, Write, Preview, Call, SetUp, Enter, Ask, previewed}
 use Rattle.reference.specs.Refusals.{refusal}
 use Rattle.reference.specs.Answers.{status_of, out_bytes}
 use Rattle.reference.specs.Model.{step_model, model_of, journal_of}
@@ -24,9 +24,10 @@ abbrev pub calls_after : List Call → List (List ℕ) → List Call
 calls_after calls [] = calls
 calls_after calls (line ∷ lines) = calls_after (and_call (command_of line) calls) lines
 
--- the model's reply to an accepted call that leaves it in this state: its marks to a marks call, its status to any other
+-- the model's reply to an accepted call that leaves it in this state, or to a preview whose entry would: its marks to a marks call, its status to any other
 abbrev pub accepted_query : Query → Model → List ℕ
 accepted_query ReadStatus model = status_reply (status_of model)
+accepted_query (Preview number readings) model = status_reply (status_of model)
 accepted_query (Write form size) model = out_reply form (out_bytes form model)
 
 abbrev pub accepted_reply : Call → Model → List ℕ
@@ -37,7 +38,7 @@ accepted_reply (Ask query) model = accepted_query query model
 -- "A call is refused if a refusal above applies to its arguments and this state, read in the book's place."
 abbrev pub model_reply : Command → Model → List ℕ
 model_reply (Make call) model =
-    cond (eqb (refusal 544 call model) 0) (accepted_reply call (step_model call model)) (refusal_reply (refusal 544 call model))
+    cond (eqb (refusal 544 call model) 0) (accepted_reply call (step_model (previewed call) model)) (refusal_reply (refusal 544 call model))
 model_reply (Refuse number) model = refusal_reply number
 
 -- the model's replies to lines, after the calls of earlier lines, listed with the newest first

@@ -22,7 +22,7 @@ use Rattle.journal.specs.Encode.{encode, version}
 use Rattle.journal.specs.Read.{read_journal}
 use Rattle.journal.proofs.OneJournal.{demand}
 use Rattle.std.specs.Prelude.{Ok}
-use Rattle.reference.specs.Call.{Readings, EnterEngine, Form, Marks, Query, ReadStatus, Write, Call, Ask, event_of}
+use Rattle.reference.specs.Call.{Readings, EnterEngine, Form, Marks, ReadStatus, Write, Call, Ask, event_of}
 use Rattle.reference.specs.Refusals.{refusals, refusal}
 use Rattle.reference.specs.Answers.{refusal_on, journal_after, status_of, answer, out_bytes, out_after, out_part, output_answer}
 use Rattle.reference.specs.Deletion.{engine_call, deletion_call, SameFigures, DeletionPromises}
@@ -44,9 +44,9 @@ module _ (s : Setup) (es fs : List Event) (n : ℕ) (same : replay s es ≡ stor
   abbrev p : Progress
   p = replay s fs
 
-  query-refusal : (query : Query) → refusal 544 (Ask query) (Year s es) ≡ refusal 544 (Ask query) (Year s fs)
+  output-refusal : (form : Form) (size : ℕ) → refusal 544 (Ask (Write form size)) (Year s es) ≡ refusal 544 (Ask (Write form size)) (Year s fs)
   unfolding refusal refusals
-  query-refusal query = rw same
+  output-refusal Marks size = rw same
 
   call-refusal : n < 64 → p.stored < 64 → (call : Call) → refusal 544 call (Year s es) ≡ refusal 544 call (Year s fs)
   unfolding refusal refusals
@@ -70,7 +70,7 @@ module _ (s : Setup) (es fs : List Event) (n : ℕ) (same : replay s es ≡ stor
         }
       where
         writes : (form : Form) (out : List ℕ) → refusal_on (Ask (Write form (length out))) a ≡ refusal_on (Ask (Write form (length out))) b
-        writes form out = refusal-on (Ask (Write form (length out))) (query-refusal (Write form (length out)))
+        writes form out = refusal-on (Ask (Write form (length out))) (output-refusal form (length out))
 
 -- ---- an accepted engine, and its accepted strike
 

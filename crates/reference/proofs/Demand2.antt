@@ -26,13 +26,13 @@ use Rattle.year.proofs.Replayed.{history-length}
 use Rattle.journal.specs.Read.{read_journal}
 use Rattle.journal.proofs.OneJournal.{demand}
 use Rattle.std.specs.Prelude.{Ok}
-use Rattle.reference.specs.Call.{Form, Marks, ReadStatus, Write, Call, SetUp, Enter, Ask, is_setup}
+use Rattle.reference.specs.Call.{Form, Marks, ReadStatus, Write, Call, SetUp, Enter, Ask, previewed, is_setup}
 use Rattle.reference.specs.Answers.{refusal_on, journal_after, status_of, answer, out_bytes, out_after, out_part}
 use Rattle.reference.specs.Model.{accepted}
 use Rattle.reference.specs.Demand2.{figures_of, Shows, Demand2}
 use Rattle.reference.proofs.Stored.{stored-calls}
 use Rattle.reference.proofs.WithSetup.{accepted-has}
-use Rattle.reference.proofs.Given.{accepted-gives, accepted-answer, accepted-size, accepted-year, accepted-reads, status-accepted}
+use Rattle.reference.proofs.Given.{accepted-gives, accepted-answer, accepted-size, accepted-year, accepted-reads, status-accepted, previewed-refusal}
 use Rattle.reference.proofs.Entering.{could-enter}
 use Rattle.reference.proofs.Demand1.{demand-1}
 
@@ -117,13 +117,22 @@ module _ (call : Call) (journal : List ℕ) (h : refusal_on call journal ≡ 0) 
       by (Enter entry) year = accepted-has (Enter entry) (read_journal journal) (year refl)
       by (Ask query) year = year refl
 
--- status on the journal that an accepted call leaves answers the same
-answered : (call : Call) (journal : List ℕ) → refusal_on call journal ≡ 0 → answer call journal ≡ answer (Ask ReadStatus) (journal_after call journal)
-answered call journal h =
-    let left = journal_after call journal in
-    let n = (stored-calls.step journal (accepted-size call journal h) call).size in
-    let same : status_of (read_journal (journal_after (Ask ReadStatus) left)) ≡ status_of (read_journal left) = ap (λ b. status_of (read_journal b)) (demand-1.query_kept ReadStatus left) in
-    accepted-answer call journal h ∙ ap Ok (sym same) ∙ sym (accepted-answer (Ask ReadStatus) left (status-accepted left n (after-year call journal h)))
+-- so does the journal whose status is answered, and status on it answers the same
+module _ (call : Call) (journal : List ℕ) (h : refusal_on call journal ≡ 0) where
+  abbrev left : List ℕ
+  left = journal_after (previewed call) journal
+
+  fine : refusal_on (previewed call) journal ≡ 0
+  fine = previewed-refusal call journal ∙ h
+
+  held : no_setup (read_journal left) ≡ false
+  held = after-year (previewed call) journal fine
+
+  answered : answer call journal ≡ answer (Ask ReadStatus) left
+  answered =
+      let n = (stored-calls.step journal (accepted-size call journal h) (previewed call)).size in
+      let same : status_of (read_journal (journal_after (Ask ReadStatus) left)) ≡ status_of (read_journal left) = ap (λ b. status_of (read_journal b)) (demand-1.query_kept ReadStatus left) in
+      accepted-answer call journal h ∙ ap Ok (sym same) ∙ sym (accepted-answer (Ask ReadStatus) left (status-accepted left n held))
 
 -- ---- the part that is handed back
 
@@ -145,7 +154,7 @@ demand-2 =
       set_up = λ s journal. accepted-reads (SetUp s) journal;
       entered = λ entry journal s es e h. accepted-reads (Enter entry) journal h ∙ rw e;
       could_enter = λ entry journal s es e. could-enter journal s es e entry;
-      held = after-year;
+      held = held;
       shown = λ call journal s es h e. rw (accepted-answer call journal h, e) (shows (replay s es));
       answered = answered;
       verdict_order = λ k p. refl;

@@ -20,7 +20,7 @@ use Rattle.journal.specs.Read.{read_journal}
 use Rattle.journal.proofs.OneJournal.{demand}
 use Rattle.journal.proofs.Reading.{read-few}
 use Rattle.std.specs.Prelude.{Ok, Err}
-use Rattle.reference.specs.Call.{Entry, Marks, ReadStatus, Write, Call, Enter, Ask, event_of, is_setup}
+use Rattle.reference.specs.Call.{Entry, Marks, ReadStatus, Write, Preview, Call, SetUp, Enter, Ask, previewed, event_of, is_setup}
 use Rattle.reference.specs.Refusals.{refusals, refusal}
 use Rattle.reference.specs.Refused.{named}
 use Rattle.reference.specs.Answers.{refusal_on, refusals_on, if_accepted, journal_after, status_of, answer, outcome_of, outcome}
@@ -44,7 +44,7 @@ held-year (Year s es) h = (s, es, refl)
 -- the answer of an accepted and of a refused call, and its outcome
 module _ (call : Call) (journal : List ℕ) where
   abbrev status : Status
-  status = status_of (read_journal (journal_after call journal))
+  status = status_of (read_journal (journal_after (previewed call) journal))
 
   abbrev number : ℕ
   number = refusal_on call journal
@@ -65,6 +65,15 @@ module _ (call : Call) (journal : List ℕ) where
       by : (b : Bool) → eqb number 0 ≡ b → outcome_of (answer call journal) ≡ outcome call journal
       by true e = rw (e, eqb-true number 0 e) refl
       by false e = rw (e, named-refusal call journal (eqb-false number 0 e)) refl
+
+-- a preview is refused as the engine's entry is
+pub previewed-refusal : (call : Call) (journal : List ℕ) → refusal_on (previewed call) journal ≡ refusal_on call journal
+unfolding refusal refusals
+previewed-refusal (SetUp s) journal = refl
+previewed-refusal (Enter entry) journal = refl
+previewed-refusal (Ask ReadStatus) journal = refl
+previewed-refusal (Ask (Write form size)) journal = refl
+previewed-refusal (Ask (Preview n readings)) journal = refl
 
 -- if a call is accepted, the journal has 544 bytes and, unless the call is a setup, holds a year
 module _ (call : Call) (journal : List ℕ) (h : refusal_on call journal ≡ 0) where

@@ -1,6 +1,7 @@
 pub mod Cases
 pub mod CasesOfForty
 pub mod CasesOfDeletion
+pub mod CasesOfPreview
 pub mod Validity
 pub mod WithSetup
 pub mod Stored
@@ -11,5 +12,6 @@ pub mod Demand1
 pub mod Promises
 pub mod Demand2
 pub mod Deletion
+pub mod Preview
 pub mod Demand3
 pub mod Refused

@@ -11,7 +11,7 @@ use Rattle.journal.specs.Encode.{setup_version, encode, append}
 use Rattle.journal.specs.Read.{read_journal}
 use Rattle.reference.specs.declared.Refusal.{Refusal}
 use Rattle.reference.specs.declared.OutputOutcome.{OutputOutcome}
-use Rattle.reference.specs.Call.{Entry, Form, Marks, Write, Call, SetUp, Enter, Ask, event_of}
+use Rattle.reference.specs.Call.{Entry, Form, Marks, Write, Call, SetUp, Enter, Ask, event_of, previewed}
 use Rattle.reference.specs.Refusals.{refusals, refusal}
 use Rattle.reference.specs.Refused.{number_of, named}
 
@@ -51,10 +51,10 @@ abbrev pub status_of : Model → Status
 status_of NoSetup = no_status
 status_of (Year s es) = status 1024 (replay s es)
 
--- "An accepted setup or entry returns the status of the book that it leaves", and the status call that of the book it reads. "A refusal returns its number".
--- (A call that writes an output returns a part and its refusal instead of an answer.)
+-- "An accepted setup or entry returns the status of the book that it leaves", a preview that of the book which the entry would leave, and the status call that of
+-- the book it reads. "A refusal returns its number". (A call that writes an output returns a part and its refusal instead of an answer.)
 unfoldable pub answer : Call → List ℕ → Result Status Refusal
-answer call journal = if_accepted call journal (Ok (status_of (read_journal (journal_after call journal)))) (Err (named (refusal_on call journal)))
+answer call journal = if_accepted call journal (Ok (status_of (read_journal (journal_after (previewed call) journal)))) (Err (named (refusal_on call journal)))
 
 -- document 01's refusal number, 0 for none, and figures for each case of an answer
 pub record Outcome : Type 0 where
@@ -68,7 +68,7 @@ outcome_of (Err refusal) = record { refusal = number_of refusal; status = no_sta
 -- the same for a call: "A refusal returns its number, every other figure of the answer zero, marks '-', N absent"
 unfoldable pub outcome : Call → List ℕ → Outcome
 outcome call journal =
-    record { refusal = refusal_on call journal; status = if_accepted call journal (status_of (read_journal (journal_after call journal))) no_status }
+    record { refusal = refusal_on call journal; status = if_accepted call journal (status_of (read_journal (journal_after (previewed call) journal))) no_status }
 
 -- the bytes of each form of output. Marks: "two marks per engine, HC+NOx then CO", at the calculator's resolution of 1,024
 abbrev pub form_bytes : Form → Progress → List ℕ

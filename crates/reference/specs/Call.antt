@@ -26,28 +26,47 @@ pub data Entry : Type 0 where
   EnterEngine : ℕ → Readings → Entry
   EnterChange : Change → Entry
 
--- an engine's entry from its number, its HC+NOx readings and its CO readings
+-- what is written into a lent output: the marks ("the strip")
+pub data Form : Type 0 where
+  Marks : Form
+
+-- the calls that only read the journal: status; an output of some form, with the length of the buffer lent for it; and the preview of an engine with its number
+-- and readings, which "only asks" what its entry would answer (document 02, W-202)
+pub data Query : Type 0 where
+  ReadStatus : Query
+  Write : Form → ℕ → Query
+  Preview : ℕ → Readings → Query
+
+-- an engine's entry, and its preview, from its number, its HC+NOx readings and its CO readings
 abbrev pub engine_entry : ℕ → List ℕ → List ℕ → Entry
 engine_entry number hcnox co = EnterEngine number (record { hcnox = hcnox; co = co })
+
+abbrev pub engine_preview : ℕ → List ℕ → List ℕ → Query
+engine_preview number hcnox co = Preview number (record { hcnox = hcnox; co = co })
 
 -- the same from an engine as a call is given it
 abbrev pub entry_of : EngineEntry → Entry
 entry_of e = engine_entry e.number e.readings.hcnox.now e.readings.co.now
 
--- what is written into a lent output: the marks ("the strip")
-pub data Form : Type 0 where
-  Marks : Form
+abbrev pub preview_of : EngineEntry → Query
+preview_of e = engine_preview e.number e.readings.hcnox.now e.readings.co.now
 
--- the calls that only read the journal: status, and an output of some form, with the length of the buffer lent for it
-pub data Query : Type 0 where
-  ReadStatus : Query
-  Write : Form → ℕ → Query
-
--- the eight calls: setup, five entries, two queries
+-- the nine calls: setup, five entries, three queries
 pub data Call : Type 0 where
   SetUp : Setup → Call
   Enter : Entry → Call
   Ask : Query → Call
+
+-- the call whose status is answered: for a preview, which "tells the reply, writing nothing" (document 02, W-202), the engine's entry; else the call itself
+abbrev pub query_previewed : Query → Call
+query_previewed ReadStatus = Ask ReadStatus
+query_previewed (Write form size) = Ask (Write form size)
+query_previewed (Preview number readings) = Enter (EnterEngine number readings)
+
+abbrev pub previewed : Call → Call
+previewed (SetUp s) = SetUp s
+previewed (Enter entry) = Enter entry
+previewed (Ask query) = query_previewed query
 
 -- the results computed from an engine's readings
 abbrev pub results_of : Setup → Readings → Pair ℕ
@@ -71,11 +90,17 @@ is_setup (SetUp s) = true
 is_setup (Enter entry) = false
 is_setup (Ask query) = false
 
--- "the call would add an event": the entries do
+-- a test of an engine's preview; false for any other query
+abbrev pub of_preview : (ℕ → Readings → Bool) → Query → Bool
+of_preview test ReadStatus = false
+of_preview test (Write form size) = false
+of_preview test (Preview number readings) = test number readings
+
+-- "the call would add an event": the entries do. A preview is refused as if it did: "its reply and refusals equal those of the first on the same book" (W-202)
 abbrev pub adds_event : Call → Bool
 adds_event (SetUp s) = false
 adds_event (Enter entry) = true
-adds_event (Ask query) = false
+adds_event (Ask query) = of_preview (λ number readings. true) query
 
 -- A test of the arguments of one kind of call; false for any other call.
 abbrev pub of_setup : (Setup → Bool) → Call → Bool
@@ -83,10 +108,11 @@ of_setup test (SetUp s) = test s
 of_setup test (Enter entry) = false
 of_setup test (Ask query) = false
 
+-- of an entry, and of a preview as of the engine's entry
 abbrev pub of_entry : (Entry → Bool) → Call → Bool
 of_entry test (SetUp s) = false
 of_entry test (Enter entry) = test entry
-of_entry test (Ask query) = false
+of_entry test (Ask query) = of_preview (λ number readings. test (EnterEngine number readings)) query
 
 abbrev pub of_query : (Query → Bool) → Call → Bool
 of_query test (SetUp s) = false
@@ -123,3 +149,4 @@ of_deletion test Delete = test
 abbrev pub of_marks : (ℕ → Bool) → Query → Bool
 of_marks test ReadStatus = false
 of_marks test (Write Marks size) = test size
+of_marks test (Preview number readings) = false

@@ -1,5 +1,5 @@
 -- Demand 1: what a call leaves in the lent buffers, and by which number it is refused, for every call and every length and content of the buffers; with the
--- strike and refusal 17 of document 02, W-201.
+-- strike and refusal 17 of document 02, W-201, and the preview of W-202.
 -- ("Each call ends" is the checker's verdict on the code.)
 use Rattle.std.specs.Prelude.{◌≡◌, ◌↔◌, ◌≢◌, true, false, ◌&&◌, List, [], ◌∷◌, map, ℕ, ◌*◌, ◌≤◌, ◌<◌, eqb, length, get_or}
 use Rattle.buffers.specs.Bytes.{Outside}
@@ -32,7 +32,7 @@ pub record Demand1 : Type 0 where
   pub version_raised : (journal : List ℕ) → refusal_on (Enter (EnterChange Delete)) journal ≡ 0 → version_in journal ≡ 1
       → version_in (journal_after (Enter (EnterChange Delete)) journal) ≡ 2
   pub entry_size : (entry : Entry) (journal : List ℕ) → length (journal_after (Enter entry) journal) ≡ length journal
-  -- for status and marks, none in the journal
+  -- for status, marks and a preview, none in the journal
   pub query_kept : (query : Query) (journal : List ℕ) → journal_after (Ask query) journal ≡ journal
   -- for an output, the bytes of its form, at the front; for marks, the first 2n. The byte at every other index is unchanged, and so is the length
   pub out_kept : (form : Form) (journal out : List ℕ) (i : ℕ) → length (out_bytes form (read_journal journal)) ≤ i

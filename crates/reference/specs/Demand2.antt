@@ -19,7 +19,7 @@ use Rattle.year.specs.Admissible.{admissible}
 use Rattle.year.specs.Model.{Year, no_setup}
 use Rattle.journal.specs.Read.{read_journal}
 use Rattle.journal.specs.OneJournal.{OneJournal}
-use Rattle.reference.specs.Call.{Entry, Form, Marks, ReadStatus, Write, Call, SetUp, Enter, Ask, event_of, of_engine}
+use Rattle.reference.specs.Call.{Entry, Form, Marks, ReadStatus, Write, Call, SetUp, Enter, Ask, event_of, previewed, of_engine}
 use Rattle.reference.specs.Refusals.{counts_fit, readings_fit}
 use Rattle.reference.specs.Answers.{refusal_on, journal_after, answer, outcome_of, out_after, out_part}
 
@@ -54,11 +54,12 @@ pub record Demand2 : Type 0 where
   -- accepted journal "could have been entered in that order" (document 01, "The book")
   pub could_enter : (entry : Entry) (journal : List ℕ) (s : Setup) (es : List Event) → read_journal journal ≡ Year s es
       → admissible (replay s es) (event_of (replay s es) entry) ≡ true → unreadable entry ≡ false → refusal_on (Enter entry) journal ≡ 0
-  -- what is answered: each figure of the year that the journal then holds (after an accepted call it holds one), which is what status answers on that journal
-  pub held : (call : Call) (journal : List ℕ) → refusal_on call journal ≡ 0 → no_setup (read_journal (journal_after call journal)) ≡ false
-  pub shown : (call : Call) (journal : List ℕ) (s : Setup) (es : List Event) → refusal_on call journal ≡ 0 → read_journal (journal_after call journal) ≡ Year s es
-      → Shows (outcome_of (answer call journal)).status (replay s es)
-  pub answered : (call : Call) (journal : List ℕ) → refusal_on call journal ≡ 0 → answer call journal ≡ answer (Ask ReadStatus) (journal_after call journal)
+  -- what is answered: each figure of the year that the journal then holds (after an accepted call it holds one), which is what status answers on that journal; for
+  -- a preview (document 02, W-202), of the journal that the engine's entry would leave (`previewed`)
+  pub held : (call : Call) (journal : List ℕ) → refusal_on call journal ≡ 0 → no_setup (read_journal (journal_after (previewed call) journal)) ≡ false
+  pub shown : (call : Call) (journal : List ℕ) (s : Setup) (es : List Event) → refusal_on call journal ≡ 0
+      → read_journal (journal_after (previewed call) journal) ≡ Year s es → Shows (outcome_of (answer call journal)).status (replay s es)
+  pub answered : (call : Call) (journal : List ℕ) → refusal_on call journal ≡ 0 → answer call journal ≡ answer (Ask ReadStatus) (journal_after (previewed call) journal)
   -- the verdict (document 01, "Verdict"): "The first that applies", in this order; 1 if none does
   pub verdict_order : (k : ℕ) (p : Progress) → map (λ (row : Row). row.1) (verdict_rows k p) ≡ 7 ∷ 6 ∷ 5 ∷ 0 ∷ 2 ∷ 3 ∷ 4 ∷ []
   pub verdict_first : (k : ℕ) (p : Progress) (v : ℕ) → FirstApplies (verdict_rows k p) v → verdict k p ≡ v

@@ -11,3 +11,5 @@ pub mod Deletion
 pub mod Cases
 pub mod CasesOfForty
 pub mod CasesOfDeletion
+pub mod Preview
+pub mod CasesOfPreview
