@@ -1,3 +1,4 @@
 mod SetUp
 mod Sized
 mod Entered
+mod Previewed
