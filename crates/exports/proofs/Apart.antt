@@ -12,7 +12,7 @@ use Rattle.journal.specs.Read.{read_journal}
 use Rattle.std.specs.Prelude.{Result, Ok, Err}
 use Rattle.year.specs.declared.Status.{Status}
 use Rattle.reference.specs.declared.Refusal.{Refusal}
-use Rattle.reference.specs.Call.{Form, Marks, Query, ReadStatus, Write, Call, SetUp, Enter, Ask}
+use Rattle.reference.specs.Call.{Form, Marks, Query, ReadStatus, Write, Preview, Call, SetUp, Enter, Ask}
 use Rattle.reference.specs.Refusals.{refusal}
 use Rattle.reference.specs.Answers.{refusal_on, answer, out_bytes, outcome}
 use Rattle.reference.proofs.Refused.{refusal-up-to}
@@ -35,6 +35,7 @@ out-long Marks bytes = marks-long bytes
 
 query-long : (query : Query) (journal : List ℕ) → 2 ≤ length (query_reply query journal)
 query-long ReadStatus journal = answer-long (answer (Ask ReadStatus) journal)
+query-long (Preview number readings) journal = answer-long (answer (Ask (Preview number readings)) journal)
 query-long (Write form size) journal =
     by-test (λ (bytes : List ℕ). 2 ≤ length bytes) (eqb (refusal_on (Ask (Write form size)) journal) 0) _ _
     (λ _. out-long form (out_bytes form (read_journal journal))) (λ _. omega arith)

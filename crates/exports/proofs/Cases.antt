@@ -3,7 +3,7 @@ use mathlib.Core.Path.{refl}
 use Rattle.buffers.specs.Bytes.{put}
 use Rattle.rounding.specs.Result.{nearest_even}
 use Rattle.statistics.specs.Spread.{variation}
-use Rattle.statistics.specs.SampleSize.{t95, size_reached}
+use Rattle.statistics.specs.SampleSize.{t95, sample_size, size_reached}
 use Rattle.cumsum.specs.Marks.{compared, failed, undecided}
 use Rattle.year.specs.Periods.{periods, needs}
 use Rattle.year.specs.Verdict.{verdict}
@@ -20,7 +20,7 @@ use Rattle.exports.specs.Exports.{reply_count, reply_left, line_left, refusal_gi
 use Rattle.exports.specs.Cases.{Cases}
 
 pub cases : Cases
-unfolding put nearest_even variation t95 size_reached compared failed undecided periods needs verdict closed admissible can_hold append read_as refusals refusal answer outcome journal_after decimal_up_to decimal call_of command_of numbers_from reply_to journal_after_line pollutant_numbers status_numbers reply_count reply_left line_left refusal_given figures_left journal_left
+unfolding put nearest_even variation t95 sample_size size_reached compared failed undecided periods needs verdict closed admissible can_hold append read_as refusals refusal answer outcome journal_after decimal_up_to decimal call_of command_of numbers_from reply_to journal_after_line pollutant_numbers status_numbers reply_count reply_left line_left refusal_given figures_left journal_left
 cases =
     record {
       second_numbers = refl;
@@ -36,5 +36,8 @@ cases =
       figures_at_front = refl;
       figures_kept = refl;
       entered = refl;
+      asked = refl;
+      figures_asked = refl;
+      asked_kept = refl;
       not_entered = refl;
     }
