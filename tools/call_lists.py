@@ -186,7 +186,7 @@ class Lists:
         self.refusals, self.verdicts, self.marks, self.pairs = Counter(), Counter(), Counter(), Counter()
         self.strips, self.settled = Counter(), Counter()
         self.struck_after, self.versions = Counter(), Counter()
-        self.asking, self.chance = 0, random.Random(202)    # put asks about so many of the engines before it enters them
+        self.asking, self.chance = 0, random.Random(202)    # the share of engines that put asks about before it enters them
 
     def book(self):
         got = read(bytes(self.array[:self.lent]))
@@ -1623,14 +1623,14 @@ def asked_where_little_is_left(o):
         o.T(number, 900000, 5000000), shown(o, verdict=0)
     o.engines(1, [900]), o.T(2, 1, 1, want=9), o.T(1, 1, 1, want=9), o.T(0, [TOP] * 4, 1, want=9), o.Z(want=9), shown(o, verdict=0)
     o.title('closed years', 'failed and declared, with slots left and without: 8, which comes before 9 to 14')
-    for end in ('failed', 'declared'):
-        for spare in (0, 60):
+    for result, verdict, full in ((500, 6, 61), (90, 7, 60)):
+        for amendments in (0, full):
             o.S(5000, 365, 100, 6100)
-            for j in range(spare):
+            for j in range(amendments):
                 o.A(100, 6100)
-            o.engines(1, [500] * 3 if end == 'failed' else [90] * 3)
-            o.X(want=8 if end == 'failed' else 0)
-            o.T(4, 1, 1, want=8), o.T(1, 1, 1, want=8), o.T(0, [TOP] * 4, 1, want=8), shown(o, verdict=6 if end == 'failed' else 7)
+            o.engines(1, [result] * 3), o.X(want=8 if verdict == 6 else 0)
+            assert (len(o.book().events) == MAX_EVENTS) == (amendments == full)
+            o.T(4, 1, 1, want=8), o.T(1, 1, 1, want=8), o.T(0, [TOP] * 4, 1, want=8), shown(o, verdict)
 
 
 def asked_then_periods(o):

@@ -10,8 +10,8 @@ nothing with the calculator.
                crates/call_lists/stdin as key lines, with lines damaged by a fixed seed among them; years with strikes; asks (key T) wherever engines are
                entered; no newline at the end
 Each line that begins with T must have the reply that the same line with E would have on the same book; and with all of them taken out, the other replies and the
-book after each must be the same. Counts of what was met go to standard error; the script fails if a letter, a refusal that a key line can meet, a verdict or a
-mark was never met, or an ask with a reply of any kind.
+book after each must be the same. Counts of what was met go to standard error; the script fails if a letter, a refusal that a key line can meet, a verdict, a mark
+or a kind of reply that an ask can have was never met.
 """
 import copy
 import random
@@ -118,7 +118,8 @@ def check_asks(data):
             entering = copy.deepcopy(calculator)
             reply = calculator.reply(line)
             assert reply == entering.reply(b'E' + line[1:]), line
-            met['NO' if reply.startswith('NO') else 'OK', int(reply.split(' ')[1 if reply.startswith('NO') else 2])] += 1
+            words = reply.split(' ')
+            met[words[0], int(words[1] if words[0] == 'NO' else words[2])] += 1
         else:
             assert calculator.reply(line) == without.reply(line), line
         assert calculator.book() == without.book(), line
@@ -241,9 +242,9 @@ def sessions():
         keys = [key.encode() for key in map(keyed, f.read().splitlines()) if key]
     lines = []
     for key in keys:
-        seed = rng_of_asks if key.startswith(b'T') else rng
-        if seed.random() < 0.08:
-            lines.append(damaged(seed, key))
+        draws = rng_of_asks if key.startswith(b'T') else rng
+        if draws.random() < 0.08:
+            lines.append(damaged(draws, key))
         lines.append(key)
     return b'\n'.join(lines + [struck_lines(), asked_lines(), b'L' * 65, SETUP, b'L'])
 
