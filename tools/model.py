@@ -530,7 +530,11 @@ def asks_of_years():
     assert y.verdict() == 0 and y.ask(E(3, 1, 0, 0))[1].verdict() == 2 and y.verdict() == 0 and y.enter(P) == 15 and y.enter(Z) == 17 and told(y, E(3, 1, 0, 0)) == 0
     # an engine that would fail the family closes nothing
     y = enter_all((1500, 100, 100, 6100, 0, 0, 0, 0), [E(1, 1, 500, 5000), E(2, 1, 500, 5000)])
-    assert [y.ask(E(3, 1, x, 5000))[1].verdict() for x in (500, 0, 500)] == [6, 1, 6] and not y.closed() and told(y, E(3, 1, 0, 5000)) == 0 and y.verdict() == 1
+    asked = [y.ask(E(3, 1, x, 5000)) for x in (500, 0, 500)]
+    assert [(refusal, year.verdict()) for refusal, year in asked] == [(0, 6), (0, 1), (0, 6)] and not y.closed()
+    assert told(y, E(3, 1, 0, 5000)) == 0 and y.verdict() == 1
+    y = enter_all((1500, 100, 100, 6100, 0, 0, 0, 0), [E(1, 1, 500, 5000), E(2, 1, 500, 5000)])
+    assert told(y, E(3, 1, 500, 5000)) == 0 and y.verdict() == 6 and told(y, E(4, 1, 0, 0)) == 8
 
 
 def asks_refused():
