@@ -1,6 +1,6 @@
 /* The figures of a year, over libplt.a, to lay beside a student's paper: S, s, e, C, H, N and mark of each pollutant.
 
-     figures                key lines from standard input: each line, its reply, and the figures after each entry
+     figures                key lines from standard input: each line, its reply, and the figures after each entry; after T those with the engine asked about
      figures --save FILE    the same; then writes the journal to FILE
      figures FILE           the figures of the journal in FILE
 
@@ -68,6 +68,20 @@ static void print_figures(const uint64_t *figures) {
     printf("\n");
 }
 
+/* The figures that an accepted reply tells: the journal's; after T, those of a copy in which the engine is entered. */
+static void read_figures(const uint8_t *journal, const uint8_t *line, long length, uint64_t *figures) {
+    uint8_t copy[PLT_JOURNAL_SIZE];
+    uint8_t entry[LINE_SIZE];
+    uint8_t out[PLT_REPLY_SIZE];
+    memcpy(copy, journal, sizeof copy);
+    if (line[0] == 'T') {
+        memcpy(entry, line, (size_t)length);
+        entry[0] = 'E';
+        plt_command(copy, sizeof copy, entry, (size_t)length, out, sizeof out);
+    }
+    plt_status(copy, sizeof copy, figures, PLT_FIGURE_COUNT);
+}
+
 /* Keys every line of standard input; figures follow an accepted line that is not L. */
 static void key_lines(uint8_t *journal) {
     uint8_t line[LINE_SIZE];
@@ -78,7 +92,8 @@ static void key_lines(uint8_t *journal) {
         size_t count = plt_command(journal, PLT_JOURNAL_SIZE, line, (size_t)length, out, sizeof out);
         fwrite(line, 1, (size_t)length, stdout);
         printf("%s\n%.*s\n", length == LINE_SIZE ? ".." : "", (int)count, (const char *)out);
-        if (out[0] == 'O' && line[0] != 'L' && plt_status(journal, PLT_JOURNAL_SIZE, figures, PLT_FIGURE_COUNT) == PLT_ACCEPTED) {
+        if (out[0] == 'O' && line[0] != 'L') {
+            read_figures(journal, line, length, figures);
             print_figures(figures);
         }
     }

@@ -10,6 +10,9 @@
    family has failed nothing can be struck, so a program that has to take back any engine keeps a copy of the journal from before. A journal with a strike in it is
    of version 2, any other of version 1. Journals stored before there were strikes are read as before; a library of that time refuses version 2 by 7.
 
+   plt_ask tells of an engine before it is entered, as the key line "T .." does: it returns and writes what plt_engine would, and leaves the journal. An ask takes
+   no engine number and no slot, and it may be repeated. plt_ask, plt_status and plt_marks only read the journal.
+
    Units. A result unit is one tenth of the last decimal of the standard: 0.01 g/kWh under a standard of 8.0 g/kWh, 0.1 g/kWh under one of 610. Standards, results
    and their sum S are in result units, readings in thousandths of a result unit, s in 1/1,024, and C and H in 1/4,096 result unit; N is in tenths.
 
@@ -95,7 +98,8 @@ enum plt_verdict {
    returns  the length of the reply, at least 2 and less than PLT_REPLY_SIZE, refused ("NO 1" to "NO 15", "NO 17") or not. If out is shorter than PLT_REPLY_SIZE:
             0, and nothing is done.
 
-   Only an accepted setup (all 544 bytes) or entry (one slot and byte 24; the first strike also byte 3, the version) writes the journal. */
+   An ask ("T ..") has the reply that its engine ("E ..") would have on this journal, refused or not. Only an accepted setup (all 544 bytes) or entry (one slot and
+   byte 24; the first strike also byte 3, the version) writes the journal. */
 size_t plt_command(uint8_t *journal, size_t journal_length, const uint8_t *line, size_t line_length, uint8_t *out, size_t out_length);
 
 /* Enters one engine: its number, and its readings for each pollutant in thousandths of a result unit.
@@ -106,6 +110,14 @@ size_t plt_command(uint8_t *journal, size_t journal_length, const uint8_t *line,
               first (plt_status still gives the status of the unchanged journal). Later numbers are unchanged.
    returns    0 if the engine was entered, else the refusal: 3, 7 to 14. PLT_TOO_FEW_FIGURES if figures is too short, and nothing is done. */
 uint8_t plt_engine(uint8_t *journal, size_t journal_length, uint32_t number, const uint32_t *hcnox, size_t hcnox_length, const uint32_t *co, size_t co_length,
+    uint64_t *figures, size_t figures_length);
+
+/* Asks what plt_engine would do with the same arguments on the same journal, and enters nothing.
+
+   figures  as plt_engine would leave them: if the engine can be entered, the status of the year with it (plt_status still gives that of the year without it).
+   returns  what plt_engine would return: 0 if the engine can be entered, else the refusal: 3, 7 to 14. PLT_TOO_FEW_FIGURES if figures is too short, and nothing is
+            done. */
+uint8_t plt_ask(const uint8_t *journal, size_t journal_length, uint32_t number, const uint32_t *hcnox, size_t hcnox_length, const uint32_t *co, size_t co_length,
     uint64_t *figures, size_t figures_length);
 
 /* Reads the status of a journal.

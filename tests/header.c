@@ -1,4 +1,4 @@
-/* Every function and every name of include/plt.h, and what it says of strikes. The figures are those of document 01's undecided mark: T 800, X 998 then 1,071;
+/* Every function and every name of include/plt.h, and what it says of strikes and asks. The figures are those of document 01's undecided mark: T 800, X 998 then 1,071;
    CO 5,000 twice under 6,100. */
 #include "plt.h"
 #include <stdio.h>
@@ -173,9 +173,83 @@ static void strikes(void) {
     same("version of a new year", journal[3], 1);
 }
 
+/* Asks about an engine, and then enters it on a copy of the journal: both return the same and write the same figures, whatever stood there, and the ask leaves the
+   journal. Returns what they return. */
+static uint8_t asked(size_t size, uint32_t number, const uint32_t *hcnox, size_t hcnox_count, const uint32_t *co, size_t co_count, uint64_t *figures) {
+    uint8_t copy[PLT_JOURNAL_SIZE];
+    uint64_t entered[PLT_FIGURE_COUNT];
+    memcpy(copy, journal, sizeof copy);
+    memset(figures, 1, sizeof entered);
+    memset(entered, 2, sizeof entered);
+    uint8_t told = plt_ask(journal, size, number, hcnox, hcnox_count, co, co_count, figures, PLT_FIGURE_COUNT);
+    same("an ask changes the journal", memcmp(journal, copy, sizeof copy) != 0, 0);
+    same("what an ask returns", told, plt_engine(copy, size, number, hcnox, hcnox_count, co, co_count, entered, PLT_FIGURE_COUNT));
+    for (int i = 0; i < PLT_FIGURE_COUNT; i++) {
+        same("a figure of an ask", figures[i], entered[i]);
+    }
+    return told;
+}
+
+/* The key T: the reply of E with the same numbers, which is then keyed, and the journal as it was. */
+static void asked_by_key(const char *numbers) {
+    uint8_t before[PLT_JOURNAL_SIZE], out[PLT_REPLY_SIZE], entered[PLT_REPLY_SIZE];
+    char line[PLT_REPLY_SIZE];
+    memcpy(before, journal, sizeof before);
+    snprintf(line, sizeof line, "T%s", numbers);
+    size_t length = key(line, out, sizeof out);
+    same("a key T changes the journal", memcmp(journal, before, sizeof before) != 0, 0);
+    line[0] = 'E';
+    same("length of its reply", length, key(line, entered, sizeof entered));
+    same("a reply to T and to E differ", memcmp(out, entered, length) != 0, 0);
+}
+
+static void asks_refused(void) {
+    const uint32_t one[] = {1}, above[] = {20000001}, largest[] = {20000000};
+    uint64_t figures[PLT_FIGURE_COUNT];
+    memset(journal, 0, sizeof journal);
+    refused("asked before a setup", asked(sizeof journal, 1, one, 1, one, 1, figures), PLT_REFUSED_JOURNAL, figures);
+    keyed("S 5000 365 800 6100 0 60000 0 0\nE 1 998000 5000000\n", 0, 0);
+    refused("asked on a short journal", asked(sizeof journal - 1, 2, one, 1, one, 1, figures), PLT_REFUSED_JOURNAL_SIZE, figures);
+    refused("asked with a number again", asked(sizeof journal, 1, one, 1, one, 1, figures), PLT_REFUSED_ENGINE_NUMBER, figures);
+    refused("asked without readings", asked(sizeof journal, 2, one, 0, one, 0, figures), PLT_REFUSED_READING_COUNT, figures);
+    refused("asked with a reading", asked(sizeof journal, 2, one, 1, above, 1, figures), PLT_REFUSED_READING, figures);
+    refused("asked with a result", asked(sizeof journal, 2, largest, 1, one, 1, figures), PLT_REFUSED_RESULT, figures);
+    keyed(SETUP "\nX\n", 0, 0);
+    refused("asked in a closed year", asked(sizeof journal, 1, one, 1, one, 1, figures), PLT_REFUSED_YEAR_CLOSED, figures);
+    keyed(SETUP "\n", 0, 64);
+    refused("asked with 64 events", asked(sizeof journal, 1, one, 1, one, 1, figures), PLT_REFUSED_EVENTS_FULL, figures);
+    keyed(SETUP "\n", 40, 0);
+    refused("asked with forty engines", asked(sizeof journal, 41, one, 1, one, 1, figures), PLT_REFUSED_ENGINES_FULL, figures);
+}
+
+/* The figures are those with the engine, and the status stays that without it; then the engine is entered. Too few figures: nothing is done. */
+static void asks(void) {
+    const uint32_t second[] = {1071000}, co[] = {5000000};
+    uint64_t figures[PLT_FIGURE_COUNT + 1];
+    keyed(SETUP "\nE 1 998000 5000000\n", 0, 0);
+    figures[0] = figures[PLT_FIGURE_COUNT] = 7;
+    same("few figures", plt_ask(journal, sizeof journal, 2, second, 1, co, 1, figures, PLT_FIGURE_COUNT - 1), PLT_TOO_FEW_FIGURES);
+    same("a figure where there are too few", figures[0], 7);
+    same("more figures", plt_ask(journal, sizeof journal, 2, second, 1, co, 1, figures, PLT_FIGURE_COUNT + 1), PLT_ACCEPTED);
+    same("a figure behind the last", figures[PLT_FIGURE_COUNT], 7);
+    for (int i = 0; i < 2; i++) {
+        same("ask", asked(sizeof journal, 2, second, 1, co, 1, figures), PLT_ACCEPTED);
+        status(figures);
+        same("status", plt_status(journal, sizeof journal, figures, PLT_FIGURE_COUNT), PLT_ACCEPTED);
+        same("n without the engine", figures[PLT_FIGURE_TESTED], 1);
+    }
+    asked_by_key(" 2 1071000 5000000");
+    asked_by_key(" 2 1071000 5000000");
+    asked_by_key(" 3 1071000");
+    same("status", plt_status(journal, sizeof journal, figures, PLT_FIGURE_COUNT), PLT_ACCEPTED);
+    status(figures);
+    asks_refused();
+}
+
 int main(void) {
     calls();
     strikes();
+    asks();
     refusals();
     verdicts();
     printf(failures ? "the header and the library differ\n" : "every name of the header means what the library does\n");

@@ -1,5 +1,5 @@
 #!/usr/bin/env python3
-"""Input and expected output of the test program call_lists, from document 01 and W-201 of document 02 alone (tools/model.py).
+"""Input and expected output of the test program call_lists, from document 01 and W-201 and W-202 of document 02 alone (tools/model.py).
 
 Run from the repository's root, it writes crates/call_lists/stdin and crates/call_lists/stdout. It shares nothing with the calculator.
 
@@ -10,9 +10,10 @@ The input has one call to a line: a letter, then decimal numbers, each after one
   W i v                       byte i becomes v
   S P D T1 T2 k1 f1 k2 f2     setup: volume, days, standards, then kind and factor of HC+NOx and of CO
   E number a b r.. r..        engine: a readings of HC+NOx, then b of CO
+  T number a b r.. r..        ask: what that engine would be answered, and nothing is written
   A t1 t2   P   X   Z   Q     amendment, next period, declaration, strike, status
   L size                      the strip, into the first `size` bytes of an array of 100 that are all '.' before
-It prints a line for each of S E A P X Z Q:
+It prints a line for each of S E T A P X Z Q:
   refusal n verdict, then S s e Clow Chigh Hlow Hhigh N mark of HC+NOx and of CO, then a digest of all 560 bytes;
 and for L:
   refusal length |the array of 100| refusal |the part handed back| digest of the 100 bytes after that second call, digest of the 560 bytes.
@@ -20,8 +21,10 @@ and for L:
 Each answer is computed twice: as the first, in checking order, of all refusals that hold, and from the plain year of the calls (their arguments alone).
 Each strip is computed a second time, from fractions, and compared with work at m = 2 and 8, which must be as demand 3 says. The status and strip of a book with
 strikes are computed a second time from its events without these and the engines that they removed; a strike right after its engine must give the status before.
+Each ask is answered a second time by entering its engine on the book read anew; one right before its engine must have that engine's answer; and with all asks
+taken out, the lines must give the same other answers and leave the same array.
 Counts of what occurred go to standard error; the script fails if a refusal, a verdict, a mark, a strike after an engine, an amendment or a strike, a book of
-either version or a pair of refusals that can hold at once (of which the first must be given) never occurred.
+either version, a pair of refusals that can hold at once (of which the first must be given), or an ask of any answer right before its engine never occurred.
 """
 import copy
 import random
@@ -38,6 +41,7 @@ TOP = 4294967295        # the largest argument
 # The refusals that each call can give, in checking order.
 ROWS = {'S': (3, 4, 5, 6), 'E': (3, 7, 8, 9, 10, 11, 12, 13, 14), 'A': (3, 5, 7, 8, 9), 'P': (3, 7, 8, 9, 15),
         'X': (3, 7, 8, 9), 'Z': (3, 7, 8, 9, 17), 'Q': (3, 7), 'L': (3, 7, 16)}
+ROWS['T'] = ROWS['E']   # an ask is refused as its engine is
 
 # ------------------------------------------------------------- the answers
 
@@ -112,11 +116,17 @@ def call_of(letter, numbers):
     if letter == 'S':
         p, d, t1, t2, k1, f1, k2, f2 = numbers
         return (p, d, t1, t2, k1, k2, f1, f2)
-    if letter == 'E':
+    if letter in 'ET':
         number, a, b = numbers[:3]
         assert len(numbers) == 3 + a + b and a <= 8 and b <= 8
         return (number, numbers[3:3 + a], numbers[3 + a:])
     return tuple(numbers)
+
+
+def engine_numbers(number, hcnox, co):
+    """An engine's numbers as its line has them; one reading need not be in a list."""
+    hcnox, co = (r if isinstance(r, list) else [r] for r in (hcnox, co))
+    return [number, len(hcnox), len(co)] + hcnox + co
 
 
 def results_of(setup, hcnox, co):
@@ -139,7 +149,7 @@ def rows_that_hold(letter, args, lent, accepted, year):
         return held
     row(5, letter == 'A' and not (standard_ok(args[0]) and standard_ok(args[1])))
     row(7, not accepted)
-    if letter == 'E':
+    if letter in 'ET':
         number, hcnox, co = args
         row(10, not 1 <= number <= 65535)
         row(11, len(hcnox) != len(co) or not 1 <= len(hcnox) <= 3)
@@ -147,7 +157,7 @@ def rows_that_hold(letter, args, lent, accepted, year):
     if year is not None:
         row(8, year.verdict() in (6, 7))
         row(9, len(year.events) == MAX_EVENTS)
-        if letter == 'E':
+        if letter in 'ET':
             row(10, year.has(number))
             row(13, max(results_of(year.setup, hcnox, co)) > 20000)
         row(17, not year.can_strike())
@@ -158,7 +168,8 @@ def rows_that_hold(letter, args, lent, accepted, year):
 
 
 def event_of(letter, args, setup):
-    if letter == 'E':
+    """The event that an entry adds; of an ask, the engine that it asks about."""
+    if letter in 'ET':
         number, hcnox, co = args
         count = len(hcnox) if len(hcnox) == len(co) else 0
         return ('E', number, count) + results_of(setup, hcnox, co)
@@ -175,6 +186,7 @@ class Lists:
         self.refusals, self.verdicts, self.marks, self.pairs = Counter(), Counter(), Counter(), Counter()
         self.strips, self.settled = Counter(), Counter()
         self.struck_after, self.versions = Counter(), Counter()
+        self.asking, self.chance = 0, random.Random(202)    # the share of engines that put asks about before it enters them
 
     def book(self):
         got = read(bytes(self.array[:self.lent]))
@@ -221,6 +233,7 @@ class Lists:
             self.strip(args[0], refusal, year)
             return refusal
         before = bytes(self.array)
+        asked = self.asked(args, refusal, year) if letter == 'T' and year is not None else None
         if letter in 'EAPXZ' and year is not None:
             self.entered(letter, args, refusal, year)
         if refusal == 0:
@@ -228,7 +241,7 @@ class Lists:
             self.wrote(letter, before)
         else:
             assert bytes(self.array) == before
-        self.output.append(' '.join(str(x) for x in [refusal] + self.status(refusal) + [digest(self.array)]))
+        self.output.append(' '.join(str(x) for x in [refusal] + self.status(refusal, asked) + [digest(self.array)]))
         return refusal
 
     def entered(self, letter, args, refusal, year):
@@ -237,28 +250,39 @@ class Lists:
         if refusal != 12:
             assert year.enter(event) == refusal, (letter, args, refusal)
 
+    def asked(self, args, refusal, year):
+        """The year that the ask tells of, which is also what entering the engine makes of the book read anew; the year itself stays."""
+        event = event_of('T', args, year.setup)
+        refused, asked = year.ask(event)
+        entered = self.book()
+        assert entered.enter(event) == refused and (refusal == 12 or refused == refusal)
+        assert (entered.events, status_of(entered), strip_of(entered)) == (asked.events, status_of(asked), strip_of(asked))
+        assert encode(year.setup, year.events) == bytes(self.array[:SIZE])
+        return asked
+
     def leave(self, letter, args, year):
         if letter == 'S':
             year = Year(args)
-        if letter == 'Q':
+        if letter in 'TQ':
             return
         self.plain = year
         self.array[:SIZE] = encode(year.setup, year.events)
 
     def wrote(self, letter, before):
-        """An entry wrote its slot and byte 24, and the first strike byte 3; a status nothing."""
+        """An entry wrote its slot and byte 24, and the first strike byte 3; a status and an ask nothing."""
         if letter in 'EAPXZ':
             count = before[24]
             named = set(range(32 + 8 * count, 40 + 8 * count)) | {24} | ({3} if letter == 'Z' and before[3] == 1 else set())
             differ = {i for i in range(ARRAY) if self.array[i] != before[i]}
             assert differ <= named and 24 in differ and 32 + 8 * count in differ and (3 in named) == (3 in differ)
-        elif letter == 'Q':
+        elif letter in 'TQ':
             assert bytes(self.array) == before
 
-    def status(self, refusal):
+    def status(self, refusal, asked):
+        """Of the book, or of the year that an ask tells of."""
         if refusal:
             return REFUSED
-        year = self.book()
+        year = asked or self.book()
         self.verdicts[year.verdict()] += 1
         for p in (year.h, year.c):
             self.marks[figures(p)[-1]] += 1
@@ -293,6 +317,8 @@ class Lists:
     # The lines, with the refusal that is expected; None for any.
 
     def put(self, want, letter, *numbers):
+        if letter == 'E' and self.chance.random() < self.asking:
+            self.put(want, 'T', *numbers)
         refusal = self.say(' '.join([letter] + [str(x) for x in numbers]))
         assert want is None or refusal == want, (letter, numbers, refusal, want)
         return refusal
@@ -306,9 +332,13 @@ class Lists:
         return self.put(want, 'S', p, d, t1, t2, k1, f1, k2, f2)
 
     def E(self, number, hcnox, co, want=0):
-        hcnox = hcnox if isinstance(hcnox, list) else [hcnox]
-        co = co if isinstance(co, list) else [co]
-        return self.put(want, 'E', number, len(hcnox), len(co), *(hcnox + co))
+        return self.put(want, 'E', *engine_numbers(number, hcnox, co))
+
+    def T(self, number, hcnox, co, want=0, verdict=None):
+        """An ask, and the verdict that it tells."""
+        refusal = self.put(want, 'T', *engine_numbers(number, hcnox, co))
+        assert verdict is None or self.output[-1].split(' ')[2] == str(verdict), self.output[-1]
+        return refusal
 
     def A(self, t1, t2, want=0):
         return self.put(want, 'A', t1, t2)
@@ -979,7 +1009,7 @@ def damaged(o):
             if read(bytes(whole[:at]) + bytes([value]) + whole[at + 1:544]) is not None:
                 continue
             o.W(at, value)
-            o.Q(want=7)
+            o.Q(want=7), o.T(9, 1, 1, want=7)
             turn += 1
             o.put(7, *(('L', 100), ('E', 9, 1, 1, 1, 1), ('A', 10, 10), ('P',), ('X',))[turn % 5])
             o.W(at, whole[at])
@@ -990,7 +1020,7 @@ def damaged(o):
         for i, v in changes:
             o.W(i, v)
         refusal = o.Q(want=None)
-        o.L(10, want=refusal)
+        o.L(10, want=refusal), o.T(9, 1, 1, want=refusal or None)
         for i, v in changes:
             o.W(i, whole[i])
     o.Q(verdict=7), o.L(10)
@@ -1285,6 +1315,7 @@ def struck_books(o):
         for at, value in change:
             o.W(at, value)
         refusal = o.Q(want=None)
+        o.T(9, 1, 1, want=refusal or None)
         if refusal:
             o.put(7, *(('Z',), ('L', 100), ('E', 9, 1, 1, 1, 1), ('A', 10, 10), ('P',), ('X',))[turn % 6])
         for at, _ in change:
@@ -1293,7 +1324,8 @@ def struck_books(o):
     o.title('an accepted book of version 1 whose version becomes 2, and a strike of it')
     o.S(5000, 365, 1000, 6100)
     o.engines(1, [900, 910])
-    o.W(3, 2), o.Q(want=7), o.Z(want=7), o.L(80, want=7), o.W(3, 1), o.Z(), o.W(3, 1), o.Q(want=7), o.Z(want=7), o.W(3, 2), o.Z(), shown(o, verdict=0)
+    o.W(3, 2), o.Q(want=7), o.Z(want=7), o.T(3, 1, 1, want=7), o.L(80, want=7)
+    o.W(3, 1), o.Z(), o.W(3, 1), o.Q(want=7), o.Z(want=7), o.T(3, 1, 1, want=7), o.W(3, 2), o.T(3, 1, 1), o.Z(), shown(o, verdict=0)
 
 
 def struck_by_hand(o):
@@ -1442,8 +1474,8 @@ def random_trouble(o, rng):
     o.W(at, kept)
 
 
-def random_list(o, rng, index, strikes=0):
-    """`strikes` is the chance of a strike in place of another call."""
+def random_list(o, rng, index, strikes=0, asks=0):
+    """`strikes` is the chance of a strike in place of another call, `asks` that of asks before a call."""
     styles = [rng.choice(STYLES), rng.choice(('pass', rng.choice(STYLES)))]
     if rng.random() < 0.5:
         styles.reverse()
@@ -1458,6 +1490,8 @@ def random_list(o, rng, index, strikes=0):
         pick = rng.random()
         if year.closed() and rng.random() < 0.5:
             break
+        if asks and rng.random() < asks:
+            random_asks(o, rng, styles, number)
         if strikes and rng.random() < strikes:
             number = random_strikes(o, rng, year, number)
         elif pick < 0.72:
@@ -1492,6 +1526,20 @@ def random_strikes(o, rng, year, number):
     return number
 
 
+def random_asks(o, rng, styles, number):
+    """One ask or more: of possible next engines in the styles; of one with the number of an engine in the book; of any arguments."""
+    year = o.book()
+    kinds, factors = year.setup[4:6], year.setup[6:8]
+    for _ in range(rng.choice((1, 1, 2, 3))):
+        if rng.random() < 0.15:
+            o.T(number_like(rng), [number_like(rng) for _ in range(rng.randrange(9))], [number_like(rng) for _ in range(rng.randrange(9))], want=None)
+            continue
+        results = [draw(rng, *one) for one in zip(styles, (year.h, year.c), year.standards)]
+        hcnox = readings_for(rng, kinds[0], factors[0], results[0]) or [about(kinds[0], factors[0], results[0])]
+        asked = year.engines[0].number if year.n() and rng.random() < 0.1 else number
+        o.T(asked, hcnox, sibling(rng, hcnox, kinds[1], factors[1], results[1]), want=None)
+
+
 def random_lists(o):
     o.title('lists by a fixed seed', 'refused calls among them; strip and status at the end of each')
     rng = random.Random(1054)
@@ -1505,7 +1553,119 @@ def struck_lists(o):
     for index in range(401, 551):
         random_list(o, rng, index, rng.choice((0.1, 0.2, 0.2, 0.35)))
 
+
+def asked_lists(o):
+    o.title('lists by a third seed, with asks', 'of engines that are entered next, and of others; half of them with strikes')
+    rng = random.Random(202)
+    for index in range(551, 651):
+        random_list(o, rng, index, rng.choice((0, 0.15)), rng.choice((0.2, 0.5, 0.8)))
+
+# ---------------------------------------------------- asks (document 02, W-202)
+
+
+def asks(o):
+    o.title('asks', 'the whole run of document 01, each engine asked about twice; the year keeps its own status and strip, and 64 more asks fill nothing')
+    o.S(5000, 365, 800, 6100)
+    for number, x, before, after in ((1, 998000, 0, 0), (2, 1071000, 0, 1), (3, 900000, 1, 1)):
+        for _ in range(2):
+            o.T(number, x, 5000000, verdict=after), shown(o, before)
+        o.E(number, x, 5000000), shown(o, after), o.T(number, x, 5000000, want=10)
+    for number in range(4, 68):
+        o.T(number, 1000 * number, 5000000)
+    shown(o, verdict=1), o.X(), o.T(4, 1, 1, want=8), shown(o, verdict=7)
+    o.title('asked about, and entered otherwise', 'another result, another number, the same number after a strike; no ask takes its number')
+    o.S(1500, 365, 1000, 6100)
+    o.T(1, 800000, 5000000), o.E(1, 900000, 5100000), o.T(2, 900000, 5000000), o.T(3, 900000, 5000000), o.E(3, 910000, 5000000), o.T(2, 1, 1), o.T(3, 1, 1, want=10)
+    shown(o), o.Z(), o.T(3, 910000, 5000000), shown(o, verdict=0), o.E(2, 900000, 5000000), o.T(3, 1, 1), o.T(2, 1, 1, want=10), shown(o)
+    o.title('before a setup, and on buffers of other sizes', 'an ask is refused by 7 and 3, whatever its engine')
+    o.N()
+    for number, readings in ((1, [1]), (0, [1]), (1, []), (65536, [TOP] * 4)):
+        o.T(number, readings, readings, want=7)
+        for size in (0, 543, 545, 560):
+            o.B(size), o.T(number, readings, readings, want=3)
+        o.B(544)
+    asked_verdicts(o)
+    asked_where_little_is_left(o)
+    asked_then_periods(o)
+
+
+def asked_verdicts(o):
+    o.title('each verdict that an ask can tell, and that of the year', '1, 5 and 6 for three results of one engine, 2, 3 and 4; no ask closes the year')
+    o.S(5000, 365, 1000, 6100)
+    o.T(1, 1389000, 5000000, verdict=0), o.engines(1, [1389, 1389])
+    for _ in range(2):
+        for x, verdict in ((1195, 1), (1196, 5), (1197, 6)):
+            o.T(3, 1000 * x, 5000000, verdict=verdict), shown(o, verdict=1)
+    o.A(1000, 6100), o.E(3, 1195000, 5000000), shown(o, verdict=1)
+    for volume, hcnox, co, before, verdict in ((1500, [800] * 2, [5000] * 2, 0, 2), (99999999, [900, 1100] * 15, [6000, 6200] * 15, 1, 3),
+                                               (2850, [900, 1100] * 14, [6000, 6200] * 14, 1, 4)):
+        o.S(volume, 365, 1000, 6100)
+        o.engines(1, hcnox[:-1], co)
+        o.T(len(hcnox), 1000 * hcnox[-1], 1000 * co[-1], verdict=verdict), shown(o, before)
+        o.engines(len(hcnox), hcnox[-1:], co[-1:]), shown(o, verdict)
+
+
+def asked_where_little_is_left(o):
+    o.title('the last of forty engines', 'asked about while it is free; then 14, and after a strike once more')
+    o.S(99999999, 366, 20000, 20000)
+    o.engines(1, [0, 20000] * 19 + [0])
+    for number in (40, 41, 42):
+        o.T(number, 20000000, 0), o.L(78)
+    o.engines(40, [20000]), o.T(41, 1, 1, want=14), o.T(41, 20001000, 1, want=12), o.T(40, 1, 1, want=10), shown(o)
+    o.Z(), o.T(41, 1, 1), o.T(40, 1, 1), o.engines(41, [20000]), o.T(40, 1, 1, want=14), shown(o)
+    o.title('the last of 64 events', 'asked about while it is free; then 9, which comes before 10 to 14')
+    o.S(5000, 365, 1000, 6100)
+    o.engines(1, [900])
+    for j in range(61):
+        o.A(10 * j + 10, 6100)
+    o.Z()
+    for number in (1, 2, 1):
+        o.T(number, 900000, 5000000), shown(o, verdict=0)
+    o.engines(1, [900]), o.T(2, 1, 1, want=9), o.T(1, 1, 1, want=9), o.T(0, [TOP] * 4, 1, want=9), o.Z(want=9), shown(o, verdict=0)
+    o.title('closed years', 'failed and declared, with slots left and without: 8, which comes before 9 to 14')
+    for result, verdict, full in ((500, 6, 61), (90, 7, 60)):
+        for amendments in (0, full):
+            o.S(5000, 365, 100, 6100)
+            for j in range(amendments):
+                o.A(100, 6100)
+            o.engines(1, [result] * 3), o.X(want=8 if verdict == 6 else 0)
+            assert (len(o.book().events) == MAX_EVENTS) == (amendments == full)
+            o.T(4, 1, 1, want=8), o.T(1, 1, 1, want=8), o.T(0, [TOP] * 4, 1, want=8), shown(o, verdict)
+
+
+def asked_then_periods(o):
+    o.title('an ask is no engine of a period', 'the year stays short, the next period is refused, and there is nothing to strike')
+    o.S(1600, 121, 1000, 6100)
+    o.T(1, 800000, 5000000), o.Z(want=17), o.engines(1, [800]), o.T(2, 820000, 5100000, verdict=2), o.P(want=15), o.engines(2, [820]), o.P()
+    o.T(3, 810000, 5050000, verdict=2), o.P(want=15), o.Z(want=17), shown(o, verdict=0), o.engines(3, [810]), o.T(4, 1, 1), o.Z(), o.T(3, 1, 1), shown(o, verdict=0)
+    o.title('the standards in force, also those amended since a strike', 'asks before and after an amendment')
+    o.S(1500, 365, 1000, 6100)
+    o.engines(1, [900, 900]), o.T(3, 900000, 5000000), o.A(700, 6000), o.T(3, 900000, 5000000), o.Z(), o.T(2, 900000, 5000000), shown(o, verdict=0)
+    o.engines(2, [900]), shown(o)
+
 # -------------------------------------------------------------- the counts
+
+
+def answered(o):
+    """The lines, each with what is printed for it; None if nothing is."""
+    printed = iter(o.output)
+    return [(line, None if line[0] in 'BNW' else next(printed)) for line in o.input]
+
+
+def check_asks(o):
+    """With all asks taken out, the other answers and the array are the same; and an ask has the answer of its engine, if that comes next. Returns those answers."""
+    lines, rest = answered(o), Lists()
+    others = [pair for pair in lines if pair[0][0] != 'T']
+    for line, _ in others:
+        rest.say(line)
+    assert answered(rest) == others and rest.array == o.array
+    met = Counter()
+    for (line, answer), (after, entered) in zip(lines, lines[1:]):
+        if line[0] == 'T' and after == 'E' + line[1:]:
+            told = answer.split(' ')[:-1]           # without the digest, which the entry changes
+            assert told == entered.split(' ')[:-1]
+            met[int(told[0]), int(told[2])] += 1
+    return met
 
 
 def counts(o):
@@ -1533,6 +1693,9 @@ def counts(o):
     assert set(o.marks) == set(o.strips) == set('-OU?')
     tell('open marks that work at m settles', dict(o.settled))
     assert all(o.settled.values())
+    met = check_asks(o)
+    tell('refusal and verdict of asks right before their engines', dict(sorted(met.items())))
+    assert set(met) == {(0, verdict) for verdict in range(7)} | {(refusal, 0) for refusal in ROWS['T']}
 
 
 def main():
@@ -1540,8 +1703,9 @@ def main():
     o = Lists()
     for section in (whole_run, starred, slips, verdicts, before_setup, alone, at_once, ranges, largest, damaged, by_hand, mid_year, random_lists,
                     strikes, strikes_and_amendments, strikes_in_periods, verdicts_struck, full_of_strikes, strikes_refused, struck_books, struck_by_hand,
-                    struck_lists):
+                    struck_lists, asks, asked_lists):
         at = len(o.input)
+        o.asking = 0 if section is asks else 0.25 if section in (random_lists, struck_lists) else 1
         section(o)
         print('%-22s %5d lines' % (section.__name__, len(o.input) - at), file=sys.stderr)
     counts(o)

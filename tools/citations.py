@@ -21,7 +21,7 @@ from glob import glob
 DOCUMENTS = ['README.md', 'CONTRIBUTING.md', 'examples/README.md', 'tests/cross/README.md'] + sorted(set(glob('docs/**/*.md', recursive=True)) - {'docs/PORT.md', 'docs/DESIGN-PASS.md'})
 
 # What is cited and is nothing of the tree: the language, options and commands, the keys' letters, C, what is built.
-ALLOWED = {'&&', '||', '-', '&mut', '&mut u8', 'let', 'let .. else', 'requires', 'crate::module::function', '--calls', '--names', '--case', 'S', 'E', 'A', 'P', 'X',
+ALLOWED = {'&&', '||', '-', '&mut', '&mut u8', 'let', 'let .. else', 'requires', 'crate::module::function', '--calls', '--names', '--case', 'S', 'E', 'T', 'A', 'P', 'X',
            'Z', 'L', 'OK', 'NO', 'N passed, 0 failed', 'memcpy', 'memset', 'libplt.a', 'target/figures', '../../crates/plt/out', 'PLT_LIB', 'NAME.replies.txt', '--write', '--save FILE',
            'must-fail/LABEL.edit', 'BAD EDIT', 'crates/*/specs/'}
 COMMANDS = ('rt ', './calculator ')

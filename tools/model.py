@@ -1,10 +1,11 @@
-"""Reference model of document 01, and of W-201 in document 02, from these alone: readings and results, figures, marks, sample size, verdict, refusals of
-entries, the 544-byte book.
+"""Reference model of document 01, and of W-201 and W-202 in document 02, from these alone: readings and results, figures, marks, sample size, verdict, refusals of
+entries, what an ask tells, the 544-byte book.
 
 It shares nothing with the calculator. The tools beside it make the test programs' input and expected output from it.
 Events are tuples: ('E', number, readings, hcnox, co), ('A', hcnox, co), ('P',), ('D',) for a declaration, ('Z',) for a strike.
 A setup is (P, D, hcnox standard, co standard, hcnox kind, co kind, hcnox factor, co factor).
 """
+import copy
 from collections import namedtuple
 from fractions import Fraction
 from math import isqrt
@@ -245,6 +246,12 @@ class Year:
         self.events.append(ev)
         return 0
 
+    def ask(self, engine):
+        """What entering the engine would do, tried on a copy, so that this year stays as it is: the number of the refusal, and the year that would be left."""
+        assert engine[0] == 'E'
+        tried = copy.deepcopy(self)
+        return tried.enter(engine), tried
+
 # --------------------------------------------------------------- the book
 
 
@@ -334,7 +341,7 @@ def read(buf):
             return None
     return setup, events
 
-# -------------------------------------- cases of document 01, and of W-201
+# ------------------------------ cases of document 01, and of W-201 and W-202
 
 
 def E(number, readings, xh, xc):
@@ -413,6 +420,8 @@ def self_check():
     assert y.enter(E(41, 1, 0, 0)) == 14
     strikes_of_years()
     strikes_in_books()
+    asks_of_years()
+    asks_refused()
 
 
 def strikes_of_years():
@@ -485,3 +494,66 @@ def strikes_in_books():
         assert read(encode(setup, events)) is None, events
     for events in (two + [Z, two[1], P], two + [P, E(3, 1, 1, 1), Z, E(3, 1, 2, 2), P], [one, Z, D], two + [Z, Z, one]):
         assert read(encode(setup, events)) == (setup, events), events
+
+
+def everything(year):
+    """All that a year holds, and its book."""
+    return (encode(year.setup, year.events), year.standards, year.period, list(year.engines), year.declared, vars(year.h).copy(), vars(year.c).copy(), year.verdict())
+
+
+def told(year, engine):
+    """Asks about the engine, then enters it: the ask changes nothing, and tells the refusal and the year of the entry. Returns the refusal."""
+    before = everything(year)
+    refusal, asked = year.ask(engine)
+    assert everything(year) == before
+    assert year.enter(engine) == refusal and everything(year) == everything(asked) and (everything(year) == before) == (refusal != 0)
+    return refusal
+
+
+def asks_of_years():
+    # document 01's run, each engine asked about before it is entered: the figures are those with the engine, and the year keeps its own
+    setup, one, two, three = (5000, 365, 800, 6100, 0, 0, 0, 0), E(1, 1, 998, 5000), E(2, 1, 1071, 5000), E(3, 1, 900, 5000)
+    y = Year(setup)
+    for engine, n, verdict, marks, sizes in ((one, 1, 0, '--', (None, None)), (two, 2, 1, '?U', (30, 10)), (three, 3, 1, 'UU', (28, 10))):
+        refusal, asked = y.ask(engine)
+        assert (refusal, asked.n(), asked.verdict(), asked.h.marks[-1] + asked.c.marks[-1], asked.h.N_tenths(), asked.c.N_tenths()) == (0, n, verdict, marks, *sizes)
+        assert y.n() == n - 1 and told(y, engine) == 0
+    # asks do not add up, and take no number: each is of one engine more, with the number of another ask or of a strike
+    y = enter_all(setup, [one, two, three, Z])
+    assert [y.ask(E(3, 1, x, 5000))[1].h.marks for x in (900, 926, 900)] == ['-?U', '-?O', '-?U'] and y.ask(E(4, 1, 0, 0))[1].n() == 3 and y.n() == 2
+    assert told(y, three) == 0 and y.ask(three)[0] == 10
+    # the engine is tried under the standards in force, and the amendment stays
+    y = enter_all((1500, 100, 1000, 6100, 0, 0, 0, 0), [E(1, 1, 900, 5000), E(2, 1, 900, 5000), A(700, 6100), Z])
+    assert y.ask(E(2, 1, 900, 5000))[1].h.marks == '-O' and told(y, E(2, 1, 900, 5000)) == 0
+    # an ask is no engine of a period: the year stays short, no next period begins, and nothing can be struck
+    y = enter_all((1600, 121, 1000, 6100, 0, 0, 0, 0), [E(1, 1, 0, 0), E(2, 1, 0, 0), P])
+    assert y.verdict() == 0 and y.ask(E(3, 1, 0, 0))[1].verdict() == 2 and y.verdict() == 0 and y.enter(P) == 15 and y.enter(Z) == 17 and told(y, E(3, 1, 0, 0)) == 0
+    # an engine that would fail the family closes nothing
+    y = enter_all((1500, 100, 100, 6100, 0, 0, 0, 0), [E(1, 1, 500, 5000), E(2, 1, 500, 5000)])
+    asked = [y.ask(E(3, 1, x, 5000)) for x in (500, 0, 500)]
+    assert [(refusal, year.verdict()) for refusal, year in asked] == [(0, 6), (0, 1), (0, 6)] and not y.closed()
+    assert told(y, E(3, 1, 0, 5000)) == 0 and y.verdict() == 1
+    y = enter_all((1500, 100, 100, 6100, 0, 0, 0, 0), [E(1, 1, 500, 5000), E(2, 1, 500, 5000)])
+    assert told(y, E(3, 1, 500, 5000)) == 0 and y.verdict() == 6 and told(y, E(4, 1, 0, 0)) == 8
+
+
+def asks_refused():
+    # with forty engines stored or 64 events, by 14 and 9; one before, any number of asks is told of the last engine or event, which stays free
+    setup, engines = (5000, 365, 800, 6100, 0, 0, 0, 0), [E(j, 1, 0, 0) for j in range(1, 41)]
+    y = enter_all(setup, engines[:39])
+    assert [y.ask(E(40 + j, 1, 0, 0))[1].n() for j in range(3)] == [40] * 3 and y.n() == 39 and told(y, engines[39]) == 0
+    assert told(y, E(41, 1, 0, 0)) == 14 and told(y, E(41, 1, 20001, 0)) == 13
+    assert y.enter(Z) == 0 and told(y, E(41, 1, 0, 0)) == 0
+    y = enter_all(setup, [A(10, 10)] * 63)
+    assert [len(y.ask(engines[0])[1].events) for _ in range(3)] == [64] * 3 and len(y.events) == 63 and told(y, engines[0]) == 0
+    assert [told(y, engine) for engine in (engines[1], engines[0], E(0, 4, 20001, 0))] == [9] * 3
+    # on a failed and on a declared year by 8, which comes before 9 to 14
+    failed = [E(1, 1, 20000, 0), E(2, 1, 20000, 0), E(3, 1, 20000, 0)]
+    for events in (failed, [D], [A(800, 6100)] * 61 + failed, [A(800, 6100)] * 63 + [D], engines + [D]):
+        y = enter_all(setup, events)
+        assert y.verdict() in (6, 7) and [told(y, engine) for engine in (E(50, 1, 0, 0), E(1, 1, 0, 0), E(0, 4, 20001, 0))] == [8] * 3
+    # by 10, 11 and 13, alone and before the next of them; and a refused ask leaves the year open to the engine
+    y = enter_all(setup, engines[:2])
+    assert [told(y, engine) for engine in (E(0, 1, 0, 0), E(65536, 1, 0, 0), E(2, 1, 0, 0), E(2, 0, 0, 0), E(2, 1, 20001, 0))] == [10] * 5
+    assert [told(y, engine) for engine in (E(3, 0, 0, 0), E(3, 4, 0, 0), E(3, 4, 20001, 0))] == [11] * 3
+    assert told(y, E(3, 1, 20001, 0)) == told(y, E(3, 1, 0, 20001)) == 13 and told(y, E(3, 1, 20000, 20000)) == 0
