@@ -9,20 +9,22 @@ pub enum Column {
     Letter(usize),
     Other,
     Engine,
+    Ask,
     Status,
     Marks,
 }
 
-const LETTERS: &[u8; 7] = b"SEAPXLZ";
-const COLUMNS: usize = LETTERS.len() + 4;
+const LETTERS: &[u8; 8] = b"SETAPXLZ";
+const COLUMNS: usize = LETTERS.len() + 5;
 const NAMES: [&str; COLUMNS] = [
-    "S", "E", "A", "P", "X", "L", "Z", "other", "engine", "status", "marks",
+    "S", "E", "T", "A", "P", "X", "L", "Z", "other", "engine", "ask", "status", "marks",
 ];
 const REFUSALS: usize = 18;
 
 /// What each sort of call can answer, 0 for accepted; a run has to meet it all.
 const POSSIBLE: [&[usize]; COLUMNS] = [
     &[0, 1, 2, 3, 4, 5, 6],
+    &[0, 1, 2, 3, 7, 8, 9, 10, 11, 12, 13, 14],
     &[0, 1, 2, 3, 7, 8, 9, 10, 11, 12, 13, 14],
     &[0, 1, 2, 3, 5, 7, 8, 9],
     &[0, 1, 2, 3, 7, 8, 9, 15],
@@ -31,8 +33,25 @@ const POSSIBLE: [&[usize]; COLUMNS] = [
     &[0, 1, 2, 3, 7, 8, 9, 17],
     &[1, 2],
     &[0, 3, 7, 8, 9, 10, 11, 12, 13, 14],
+    &[0, 3, 7, 8, 9, 10, 11, 12, 13, 14],
     &[0, 3, 7],
     &[0, 3, 7, 16],
+];
+
+/// What is compared without the model.
+#[derive(Clone, Copy, PartialEq, Eq, Debug)]
+pub enum Compared {
+    Deletion,
+    YearOfDeletions,
+    Ask,
+    YearOfAsks,
+}
+
+const COMPARED: [&str; 4] = [
+    "deletions compared with the status before the engine",
+    "years compared with the same without deleted engines",
+    "asks compared with the entry of the same engine",
+    "years compared with the same without asks",
 ];
 
 const VERSIONS: usize = 2;
@@ -50,8 +69,9 @@ impl Column {
             Column::Letter(place) => place,
             Column::Other => LETTERS.len(),
             Column::Engine => LETTERS.len() + 1,
-            Column::Status => LETTERS.len() + 2,
-            Column::Marks => LETTERS.len() + 3,
+            Column::Ask => LETTERS.len() + 2,
+            Column::Status => LETTERS.len() + 3,
+            Column::Marks => LETTERS.len() + 4,
         }
     }
 }
@@ -66,10 +86,8 @@ pub struct Counts {
     refusals: [[u64; COLUMNS]; REFUSALS],
     /// Accepted journals read, by version, from 1.
     versions: [u64; VERSIONS],
-    /// Deletions after which all was as before the engine, and years that told
-    /// the same without their deleted engines.
-    undone: u64,
-    never_entered: u64,
+    /// What was compared without the model, in the order of `Compared`.
+    compared: [u64; COMPARED.len()],
     verdicts: [u64; VERDICTS],
     /// By pollutant: the newest marks reported, and the marks written.
     newest: [[u64; MARKS.len()]; 2],
@@ -94,10 +112,9 @@ impl Counts {
             all.0 += cases;
             all.1 += calls;
         }
-        self.undone += case.undone;
-        self.never_entered += case.never_entered;
         add_each(&mut self.refusals, &case.refusals);
         add_row(&mut self.versions, &case.versions);
+        add_row(&mut self.compared, &case.compared);
         add_row(&mut self.verdicts, &case.verdicts);
         add_each(&mut self.newest, &case.newest);
         add_each(&mut self.written, &case.written);
@@ -119,12 +136,9 @@ impl Counts {
         self.versions[usize::from(version) - 1] += 1;
     }
 
-    pub fn undone(&mut self) {
-        self.undone += 1;
-    }
-
-    pub fn never_entered(&mut self) {
-        self.never_entered += 1;
+    /// A comparison without the model.
+    pub fn compared(&mut self, what: Compared) {
+        self.compared[what as usize] += 1;
     }
 
     pub fn status(&mut self, status: &Status) {
@@ -180,8 +194,10 @@ impl Counts {
                 missing.push(format!("a journal of version {}", place + 1));
             }
         }
-        if self.undone == 0 || self.never_entered == 0 {
-            missing.push("deleted engines compared".to_string());
+        for (name, count) in COMPARED.iter().zip(&self.compared) {
+            if *count == 0 {
+                missing.push(name.to_string());
+            }
         }
         for (verdict, count) in self.verdicts.iter().enumerate() {
             if *count == 0 {
@@ -218,14 +234,10 @@ impl Counts {
         for (place, count) in self.versions.iter().enumerate() {
             println!("{:>7} {count:>11}", place + 1);
         }
-        println!(
-            "\ndeletions compared with the status before the engine: {}",
-            self.undone
-        );
-        println!(
-            "years compared with the same without deleted engines: {}",
-            self.never_entered
-        );
+        println!();
+        for (name, count) in COMPARED.iter().zip(&self.compared) {
+            println!("{name}: {count}");
+        }
         println!("\nverdict        told");
         for (verdict, count) in self.verdicts.iter().enumerate() {
             println!("{verdict:>7} {count:>11}");

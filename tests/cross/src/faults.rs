@@ -25,17 +25,18 @@ const COUNTS: [usize; 12] = [0, 0, 1, 2, 3, 4, 5, 6, 7, 8, 257, 258];
 
 /// Makes a random call; of its arguments, one in `rate` is faulty.
 pub fn call(twin: &mut Twin, random: &mut Random, rate: usize) -> u8 {
-    match random.weighted(&[3, 8, 8, 4, 4, 1, 5, 2, 3, 3, 1]) {
+    match random.weighted(&[3, 8, 8, 8, 4, 4, 1, 5, 2, 3, 3, 1]) {
         0 => twin.command(&setup(random, rate).line()),
-        1 => twin.command(&engine_line(twin.journal(), random, rate)),
+        1 => twin.command(&engine_line(b'E', twin.journal(), random, rate)),
         2 => engine(twin, random, rate),
-        3 => twin.command(&journal::line(b'A', &standards(random, rate))),
-        4 => twin.command(b"P"),
-        5 => twin.command(b"X"),
-        6 => twin.command(b"Z"),
-        7 => twin.command(b"L"),
-        8 => marks(twin, random),
-        9 => twin.status(),
+        3 => ask(twin, random, rate),
+        4 => twin.command(&journal::line(b'A', &standards(random, rate))),
+        5 => twin.command(b"P"),
+        6 => twin.command(b"X"),
+        7 => twin.command(b"Z"),
+        8 => twin.command(b"L"),
+        9 => marks(twin, random),
+        10 => twin.status(),
         _ => short(twin, random, rate),
     }
 }
@@ -89,8 +90,9 @@ pub fn standards(random: &mut Random, rate: usize) -> [u32; 2] {
     })
 }
 
-/// An engine's line. With a wrong count, the number of readings may be odd.
-pub fn engine_line(journal: &[u8], random: &mut Random, rate: usize) -> Vec<u8> {
+/// A line of an engine's numbers. With a wrong count, the number of readings may
+/// be odd.
+pub fn engine_line(letter: u8, journal: &[u8], random: &mut Random, rate: usize) -> Vec<u8> {
     let mut numbers = vec![number(journal, random, rate)];
     let count = count(random, rate).min(8);
     if count > 3 {
@@ -103,12 +105,21 @@ pub fn engine_line(journal: &[u8], random: &mut Random, rate: usize) -> Vec<u8> 
     if random.one_in(4 * rate) {
         numbers.pop();
     }
-    journal::line(b'E', &numbers)
+    journal::line(letter, &numbers)
 }
 
 fn engine(twin: &mut Twin, random: &mut Random, rate: usize) -> u8 {
     let (number, hcnox, co) = engine_arguments(twin.journal(), random, rate);
     twin.engine(number, &hcnox, &co)
+}
+
+/// Asks for an engine, by a line or by the call.
+pub fn ask(twin: &mut Twin, random: &mut Random, rate: usize) -> u8 {
+    if random.one_in(2) {
+        return twin.command(&engine_line(b'T', twin.journal(), random, rate));
+    }
+    let (number, hcnox, co) = engine_arguments(twin.journal(), random, rate);
+    twin.ask(number, &hcnox, &co)
 }
 
 fn engine_arguments(journal: &[u8], random: &mut Random, rate: usize) -> (u32, Vec<u32>, Vec<u32>) {
@@ -198,17 +209,17 @@ pub fn marks(twin: &mut Twin, random: &mut Random) -> u8 {
 }
 
 fn any_line(journal: &[u8], random: &mut Random, rate: usize) -> Vec<u8> {
-    match random.below(6) {
+    match random.below(7) {
         0 => setup(random, rate).line(),
-        1 => engine_line(journal, random, rate),
-        2 => journal::line(b'A', &standards(random, rate)),
+        1 | 2 => engine_line(random.pick(b"ET"), journal, random, rate),
+        3 => journal::line(b'A', &standards(random, rate)),
         _ => vec![random.pick(b"PXLZ")],
     }
 }
 
 /// A call with a buffer too small for any answer.
 fn short(twin: &mut Twin, random: &mut Random, rate: usize) -> u8 {
-    match random.below(3) {
+    match random.below(4) {
         0 => {
             let line = any_line(twin.journal(), random, rate);
             twin.command_short(&line, random.pick(&[0, 1, 95, 50]));
@@ -216,6 +227,10 @@ fn short(twin: &mut Twin, random: &mut Random, rate: usize) -> u8 {
         1 => {
             let (number, hcnox, co) = engine_arguments(twin.journal(), random, rate);
             twin.engine_short(number, &hcnox, &co, random.pick(&[0, 1, 19, 10]));
+        }
+        2 => {
+            let (number, hcnox, co) = engine_arguments(twin.journal(), random, rate);
+            twin.ask_short(number, &hcnox, &co, random.pick(&[0, 1, 19, 10]));
         }
         _ => twin.status_short(random.pick(&[0, 1, 19, 10])),
     }

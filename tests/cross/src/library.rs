@@ -1,4 +1,4 @@
-//! The library's four calls: the C declarations and safe wrappers of them.
+//! The library's five calls: the C declarations and safe wrappers of them.
 //! include/plt.h says what each does. The file needs nothing else of this
 //! project.
 
@@ -14,6 +14,18 @@ unsafe extern "C" {
 
     fn plt_engine(
         journal: *mut u8,
+        journal_length: usize,
+        number: u32,
+        hcnox: *const u32,
+        hcnox_length: usize,
+        co: *const u32,
+        co_length: usize,
+        figures: *mut u64,
+        figures_length: usize,
+    ) -> u8;
+
+    fn plt_ask(
+        journal: *const u8,
         journal_length: usize,
         number: u32,
         hcnox: *const u32,
@@ -52,7 +64,7 @@ pub const MARKS: usize = 80;
 /// Words that the figures need: n, verdict, nine for each pollutant.
 pub const FIGURES: usize = 20;
 
-/// What `engine` and `status` return if there are too few words for figures.
+/// What `engine`, `ask` and `status` return if there are too few words for figures.
 pub const TOO_FEW: u8 = 255;
 
 /// Carries out one key line; returns the reply's length.
@@ -95,9 +107,27 @@ pub fn engine(
     }
 }
 
+/// Asks what `engine` would answer; returns 0 or the refusal.
+pub fn ask(journal: &[u8], number: u32, hcnox: &[u32], co: &[u32], figures: &mut [u64]) -> u8 {
+    // SAFETY: as in `engine`; the journal is only read.
+    unsafe {
+        plt_ask(
+            journal.as_ptr(),
+            journal.len(),
+            number,
+            hcnox.as_ptr(),
+            hcnox.len(),
+            co.as_ptr(),
+            co.len(),
+            figures.as_mut_ptr(),
+            figures.len(),
+        )
+    }
+}
+
 /// Reads the status; returns 0 or the refusal.
 pub fn status(journal: &[u8], figures: &mut [u64]) -> u8 {
-    // SAFETY: as in `command`; the journal is only read.
+    // SAFETY: as in `ask`.
     unsafe {
         plt_status(
             journal.as_ptr(),

@@ -9,12 +9,14 @@ use crate::buffer::Buffer;
 pub enum Call<'a> {
     Line(&'a [u8]),
     Engine(u32, &'a [u32], &'a [u32]),
+    Ask(u32, &'a [u32], &'a [u32]),
     Status,
     Marks,
     /// A line with a reply buffer that is too small.
     LineShort(&'a [u8]),
-    /// An engine or a status with too few words for the figures.
+    /// An engine, an ask or a status with too few words for the figures.
     EngineShort(u32, &'a [u32], &'a [u32]),
+    AskShort(u32, &'a [u32], &'a [u32]),
     StatusShort,
 }
 
@@ -23,6 +25,7 @@ impl fmt::Display for Call<'_> {
         match self {
             Call::Line(line) => write!(f, "command \"{}\"", line.escape_ascii()),
             Call::Engine(number, hcnox, co) => write!(f, "engine {number} {hcnox:?} {co:?}"),
+            Call::Ask(number, hcnox, co) => write!(f, "ask {number} {hcnox:?} {co:?}"),
             Call::Status => write!(f, "status"),
             Call::Marks => write!(f, "marks"),
             Call::LineShort(line) => {
@@ -30,6 +33,9 @@ impl fmt::Display for Call<'_> {
             }
             Call::EngineShort(number, hcnox, co) => {
                 write!(f, "engine, few figures {number} {hcnox:?} {co:?}")
+            }
+            Call::AskShort(number, hcnox, co) => {
+                write!(f, "ask, few figures {number} {hcnox:?} {co:?}")
             }
             Call::StatusShort => write!(f, "status, few figures"),
         }

@@ -15,6 +15,7 @@ const BATCHES: usize = 500;
 const BATCH_NANOS: f64 = 2_500_000.0;
 
 const ENGINE_1: &[u8] = b"E 5000 771000 5002000";
+const ASK: &[u8] = b"T 5000 771000 5002000";
 const ENGINE_3: &[u8] = b"E 5000 771000 780400 765999 5002000 5011111 4990000";
 const SETUP: &[u8] = b"S 100000 366 800 6100 0 0 1 1050";
 const REFUSED: &[u8] = b"E 5000 771000 5002000 7";
@@ -43,6 +44,7 @@ fn main() {
     }
     let rows = [
         line_row("engine command, 1 reading", &ten, ENGINE_1),
+        line_row("ask command, 1 reading", &ten, ASK),
         line_row("engine command, 3 readings", &ten, ENGINE_3),
         status_row("status of ten engines", &ten),
         status_row("scan of a full journal (status)", &full),

@@ -21,11 +21,12 @@ pub fn run(twin: &mut Twin, random: &mut Random) {
     }
 }
 
-/// Reads a journal and tries some entries on it.
+/// Reads a journal, asks on it and tries some entries.
 fn probe(twin: &mut Twin, random: &mut Random, journal: &[u8]) {
     twin.lend(journal);
     twin.status();
     faults::marks(twin, random);
+    faults::ask(twin, random, 20);
     for _ in 0..random.below(4) {
         faults::call(twin, random, 20);
     }

@@ -7,10 +7,14 @@ use crate::random::Random;
 use crate::twin::Twin;
 use crate::written;
 
-const ALPHABET: &[u8] = b"SEAPXLZQ 0123456789";
+const ALPHABET: &[u8] = b"SETAPXLZQU 0123456789";
 
 /// Bytes put into a well-formed line.
-const STRANGE: &[u8] = b" \t\r\n\0+-.,/:;0129aelpsxzEALPQSXZ\x1f\x21\x2f\x3a\x80\xff";
+const STRANGE: &[u8] = b" \t\r\n\0+-.,/:;0129aelpstxzEALPQSTUXZ\x1f\x21\x2f\x3a\x80\xff";
+
+/// Letters to key with the numbers of another: those that take numbers, and some
+/// that differ from T in one bit or stand next to it.
+const LETTERS: &[u8] = b"SEATTDPRUVt";
 
 pub fn run(twin: &mut Twin, random: &mut Random) {
     let mut start = written::any_journal(random);
@@ -57,7 +61,7 @@ fn from_alphabet(random: &mut Random) -> Vec<u8> {
 fn valid(journal: &[u8], random: &mut Random) -> Vec<u8> {
     match random.below(8) {
         0 | 1 => faults::setup(random, 30).line(),
-        2..=4 => faults::engine_line(journal, random, 30),
+        2..=4 => faults::engine_line(random.pick(b"EET"), journal, random, 30),
         5 => journal::line(b'A', &faults::standards(random, 30)),
         _ => vec![random.pick(b"PXLZZ")],
     }
@@ -74,7 +78,7 @@ fn changed(journal: &[u8], random: &mut Random) -> Vec<u8> {
 fn change(random: &mut Random, line: &mut Vec<u8>) {
     let at = random.below(line.len() + 1);
     let inside = at.min(line.len().saturating_sub(1));
-    match random.below(9) {
+    match random.below(10) {
         0 if !line.is_empty() => {
             line.remove(inside);
         }
@@ -85,6 +89,7 @@ fn change(random: &mut Random, line: &mut Vec<u8>) {
         5 => line.push(random.pick(b" \r\n\t\0")),
         6 => line.insert(0, random.pick(STRANGE)),
         7 => line.make_ascii_lowercase(),
+        8 if !line.is_empty() => line[0] = random.pick(LETTERS),
         _ => lengthen_number(random, line),
     }
 }

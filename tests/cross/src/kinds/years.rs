@@ -52,7 +52,8 @@ fn plain(twin: &mut Twin, random: &mut Random) {
 }
 
 /// Some last calls: reading, sometimes deletions, the next period twice, or a
-/// declaration and a call that is refused after it.
+/// declaration and a call that is refused after it, and in a year with asks a
+/// last one.
 pub fn end(drive: &mut Drive) {
     drive.twin.command(b"L");
     drive.twin.status();
@@ -78,4 +79,5 @@ pub fn end(drive: &mut Drive) {
         ]);
         drive.enter(step);
     }
+    drive.last_ask();
 }

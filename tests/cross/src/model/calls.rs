@@ -1,5 +1,5 @@
-//! Document 01, "Refused calls, in checking order", and document 02, W-201: the
-//! calls on a lent book.
+//! Document 01, "Refused calls, in checking order", and document 02, W-201 and
+//! W-202: the calls on a lent book.
 //!
 //! Each call checks in the document's order and writes only once nothing is
 //! left to refuse.
@@ -40,6 +40,12 @@ pub fn engine(book: &mut [u8], number: u32, hcnox: &[u32], co: &[u32]) -> Result
         number,
     };
     Ok(enter(book, &mut year, &event))
+}
+
+/// Tells what `engine` answers on this book: "tells the reply, writing nothing".
+pub fn ask(book: &[u8], number: u32, hcnox: &[u32], co: &[u32]) -> Result<Status, u8> {
+    let mut copy = *whole(book)?;
+    engine(&mut copy, number, hcnox, co)
 }
 
 /// Enters new standards for later engines. Refusals 3, 5, 7, 8, 9.

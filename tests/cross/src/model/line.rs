@@ -1,8 +1,8 @@
-//! Document 01, "Key line", with the key Z of document 02: a line taken apart,
-//! its call made, the reply put together.
+//! Document 01, "Key line", with the keys Z and T of document 02: a line taken
+//! apart, its call made, the reply put together.
 
 use super::Status;
-use super::calls::{amendment, declaration, deletion, engine, next_period, setup, strip};
+use super::calls::{amendment, ask, declaration, deletion, engine, next_period, setup, strip};
 use super::refusal;
 
 /// "At most 64 bytes"
@@ -59,11 +59,16 @@ fn make_call(book: &mut [u8], letter: u8, numbers: &[u32]) -> Result<Status, u8>
     match (letter, numbers) {
         // "P, D, two standards, HC+NOx kind and factor, CO kind and factor"
         (b'S', &[p, d, t0, t1, k0, f0, k1, f1]) => setup(book, p, d, [t0, t1], [k0, k1], [f0, f1]),
-        // "An odd count of readings is refused by 2"; the engine call refuses
-        // an even count "that is none or more than six" by 11.
-        (b'E', &[number, ref readings @ ..]) if readings.len().is_multiple_of(2) => {
+        // "An odd count of readings is refused by 2"; both calls refuse an even
+        // count "that is none or more than six" by 11. "key T, with E's numbers,
+        // only asks".
+        (b'E' | b'T', &[number, ref readings @ ..]) if readings.len().is_multiple_of(2) => {
             let (hcnox, co) = readings.split_at(readings.len() / 2);
-            engine(book, number, hcnox, co)
+            if letter == b'T' {
+                ask(book, number, hcnox, co)
+            } else {
+                engine(book, number, hcnox, co)
+            }
         }
         (b'A', &[hcnox, co]) => amendment(book, [hcnox, co]),
         (b'P', []) => next_period(book),

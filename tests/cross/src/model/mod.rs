@@ -1,5 +1,6 @@
 //! Document 01: the production-line test book under 40 CFR 1054, with the
-//! deletion of the newest engine of document 02, W-201.
+//! deletion of the newest engine and the ask before an entry of document 02,
+//! W-201 and W-202.
 //!
 //! Every call takes the book as lent bytes, recomputes all of it and keeps
 //! nothing between calls. A refused call changes no lent byte.
@@ -15,7 +16,7 @@ mod setup;
 mod work;
 mod year;
 
-pub use calls::{amendment, declaration, deletion, engine, next_period, setup, status, strip};
+pub use calls::{amendment, ask, declaration, deletion, engine, next_period, setup, status, strip};
 pub use line::key_line;
 pub use rounding::work_result;
 pub use work::Pollutant;

@@ -14,8 +14,8 @@ impl Twin {
     pub fn command(&mut self, line: &[u8]) -> u8 {
         let call = Call::Line(line);
         self.before(call);
-        let mut lent = self.reply_noise();
-        let mut expected = lent.clone();
+        let noise = self.reply_noise();
+        let (mut lent, mut expected) = (noise.clone(), noise.clone());
         let copy = self.line_copy(line);
         let given = copy.clone();
         let length = library::command(self.library.part_mut(), copy.part(), lent.part_mut());
@@ -24,14 +24,19 @@ impl Twin {
         let expected_length = model::key_line(self.model.part_mut(), line, front);
         let reply = expected.part()[..expected_length].to_vec();
         let refusal = refusal_of(&reply);
-        self.reply = lent.part()[..length.min(REPLY)].to_vec();
+        let letter = line.first().copied().unwrap_or(0);
+        if letter != b'T' {
+            self.reply = lent.part()[..length.min(REPLY)].to_vec();
+        }
         let found = Outcome::bytes(length, length, lent);
         let wanted = Outcome::bytes(expected_length, expected_length, expected);
         self.compare(call, &found, &wanted);
         self.expect_read(call, &wanted, &copy, &given);
-        let letter = line.first().copied().unwrap_or(0);
-        if refusal != 0 || letter == b'L' {
+        if refusal != 0 || b"LT".contains(&letter) {
             self.expect_kept(call, &wanted);
+        }
+        if letter == b'T' {
+            self.expect_same_reply(line, noise, &found);
         }
         self.counts.call(Column::of_letter(letter), refusal);
         self.counts.reply(letter, &reply);
@@ -117,7 +122,7 @@ impl Twin {
         }
     }
 
-    fn count(&mut self, column: Column, answer: &Result<Status, u8>) -> u8 {
+    pub(super) fn count(&mut self, column: Column, answer: &Result<Status, u8>) -> u8 {
         let refusal = answer.err().unwrap_or(0);
         self.counts.call(column, refusal);
         if let Ok(status) = answer {
@@ -128,7 +133,7 @@ impl Twin {
 }
 
 /// What an answer in figures should leave in a buffer of words.
-fn figures(answer: &Result<Status, u8>, mut lent: Buffer<u64>) -> Outcome {
+pub(super) fn figures(answer: &Result<Status, u8>, mut lent: Buffer<u64>) -> Outcome {
     lent.part_mut()[..FIGURES].copy_from_slice(&words_of(answer));
     Outcome::words(answer.err().unwrap_or(0), lent)
 }

@@ -1,5 +1,6 @@
 //! The two sides: both are lent equal buffers, which are then compared whole.
 
+mod asks;
 mod calls;
 mod short;
 mod told;
@@ -22,7 +23,7 @@ pub struct Twin {
     kept: Vec<u8>,
     library: Buffer<u8>,
     model: Buffer<u8>,
-    /// The library's last reply.
+    /// The library's last reply to a line that was no ask.
     reply: Vec<u8>,
 }
 

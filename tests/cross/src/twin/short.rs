@@ -32,6 +32,19 @@ impl Twin {
         self.counts.short();
     }
 
+    /// An ask, with room for at most this many figures.
+    pub fn ask_short(&mut self, number: u32, hcnox: &[u32], co: &[u32], length: usize) {
+        let call = Call::AskShort(number, hcnox, co);
+        self.before(call);
+        let mut lent = self.few_figures(length);
+        let wanted = Outcome::words(TOO_FEW, lent.clone());
+        let journal = self.library.part();
+        let returned = library::ask(journal, number, hcnox, co, lent.part_mut());
+        let found = Outcome::words(returned, lent);
+        self.compare(call, &found, &wanted);
+        self.counts.short();
+    }
+
     /// A status, with room for at most this many figures.
     pub fn status_short(&mut self, length: usize) {
         self.before(Call::StatusShort);

@@ -3,6 +3,7 @@
 use std::fmt;
 
 use super::Twin;
+use crate::counts::Compared;
 use crate::journal::{self, VERSION_AT};
 use crate::library::{self, FIGURES, MARKS};
 use crate::outcome::Call;
@@ -52,7 +53,7 @@ impl Twin {
         let mut now = self.told();
         now.reply = String::from_utf8_lossy(&self.reply).into_owned();
         self.expect_same(before, &now);
-        self.counts.undone();
+        self.counts.compared(Compared::Deletion);
     }
 
     /// Checks that a journal with deletions tells the same as one into which
@@ -62,7 +63,7 @@ impl Twin {
         if journal[VERSION_AT] == 2 {
             let without = Told::of(&journal::without_deleted(journal));
             self.expect_same(&without, &self.told());
-            self.counts.never_entered();
+            self.counts.compared(Compared::YearOfDeletions);
         }
     }
 
