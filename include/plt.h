@@ -10,8 +10,9 @@
    family has failed nothing can be struck, so a program that has to take back any engine keeps a copy of the journal from before. A journal with a strike in it is
    of version 2, any other of version 1. Journals stored before there were strikes are read as before; a library of that time refuses version 2 by 7.
 
-   plt_ask tells of an engine before it is entered, as the key line "T .." does: it returns and writes what plt_engine would, and leaves the journal. An ask takes
-   no engine number and no slot, and it may be repeated. plt_ask, plt_status and plt_marks only read the journal.
+   plt_ask tells what entering an engine would give, before it is entered, as the key line "T .." does: it returns what plt_engine would return and writes the
+   figures that plt_engine would write, but leaves the journal as it is. An ask takes up no engine number and no slot, and it may be repeated. plt_ask, plt_status
+   and plt_marks only read the journal.
 
    Units. A result unit is one tenth of the last decimal of the standard: 0.01 g/kWh under a standard of 8.0 g/kWh, 0.1 g/kWh under one of 610. Standards, results
    and their sum S are in result units, readings in thousandths of a result unit, s in 1/1,024, and C and H in 1/4,096 result unit; N is in tenths.
@@ -98,7 +99,7 @@ enum plt_verdict {
    returns  the length of the reply, at least 2 and less than PLT_REPLY_SIZE, refused ("NO 1" to "NO 15", "NO 17") or not. If out is shorter than PLT_REPLY_SIZE:
             0, and nothing is done.
 
-   An ask ("T ..") has the reply that its engine ("E ..") would have on this journal, refused or not. Only an accepted setup (all 544 bytes) or entry (one slot and
+   An ask ("T ..") gets the reply that the engine's entry ("E ..") would get on this journal, refused or not. Only an accepted setup (all 544 bytes) or entry (one slot and
    byte 24; the first strike also byte 3, the version) writes the journal. */
 size_t plt_command(uint8_t *journal, size_t journal_length, const uint8_t *line, size_t line_length, uint8_t *out, size_t out_length);
 

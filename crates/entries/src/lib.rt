@@ -46,7 +46,7 @@ fn add(journal: &mut [u8; JOURNAL_SIZE], p: &mut Progress, e: Event) -> Status
     status_of(p)
 }
 
-// The preview of an engine with its number and its readings for each pollutant (document 02, W-202: it "only asks").
+// The preview of an engine with its number and its readings for each pollutant: what its entry would answer, with nothing written (document 02, W-202).
 pub fn preview_engine(journal: &[u8], entry: &EngineEntry<'_>) -> Answer
     ensures answer { result ≡ answer (Ask (preview_of entry.now)) journal.now }
     ensures outcome { outcome_of result ≡ outcome (Ask (preview_of entry.now)) journal.now }
@@ -58,7 +58,7 @@ pub fn preview_engine(journal: &[u8], entry: &EngineEntry<'_>) -> Answer
     Ok(status_of(&year))
 }
 
-// The entry of such an engine.
+// The entry of an engine.
 pub fn enter_engine(journal: &mut [u8], entry: &EngineEntry<'_>) -> Answer
     ensures answer { result ≡ answer (Enter (entry_of entry.now)) journal.old }
     ensures outcome { outcome_of result ≡ outcome (Enter (entry_of entry.now)) journal.old }

@@ -38,6 +38,5 @@ cases =
       entered = refl;
       asked = refl;
       figures_asked = refl;
-      asked_kept = refl;
       not_entered = refl;
     }

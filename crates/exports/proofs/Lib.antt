@@ -1,2 +1,3 @@
 pub mod Cases
 pub mod Apart
+pub mod Previews

@@ -63,9 +63,8 @@ pub record Cases : Type 0 where
   pub figures_kept : figures_left (Ask ReadStatus) [] (replicate 19 7) ≡ replicate 19 7
   -- an accepted engine is in the journal; with room for nineteen figures nothing is done
   pub entered : journal_left engine_one (encode 1 (setup_of 5000 800) []) (zeros 20) ≡ encode 1 (setup_of 5000 800) (engine 1 998 ∷ [])
-  -- the same engine asked about (document 02, W-202): the same figures, and the journal as it was
+  pub not_entered : journal_left engine_one (encode 1 (setup_of 5000 800) []) (zeros 19) ≡ encode 1 (setup_of 5000 800) []
+  -- the same engine asked about (document 02, W-202): accepted, with the figures that the entry leaves
   pub asked : refusal_given preview_one (encode 1 (setup_of 5000 800) []) (zeros 20) ≡ 0
   pub figures_asked : figures_left preview_one (encode 1 (setup_of 5000 800) []) (zeros 20)
       ≡ status_numbers (record { n = 1; verdict = 0; figures = record { hcnox = only_sum 998; co = only_sum 5000 } })
-  pub asked_kept : journal_left preview_one (encode 1 (setup_of 5000 800) []) (zeros 20) ≡ encode 1 (setup_of 5000 800) []
-  pub not_entered : journal_left engine_one (encode 1 (setup_of 5000 800) []) (zeros 19) ≡ encode 1 (setup_of 5000 800) []

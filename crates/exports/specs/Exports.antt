@@ -2,7 +2,7 @@
 -- done; otherwise the answer is the call's own (document 01, "How far a contract must reach").
 use Rattle.std.specs.Prelude.{◌≡◌, cond, List, ℕ, ◌<◌, ltb, length}
 use Rattle.buffers.specs.Bytes.{put}
-use Rattle.reference.specs.Call.{Call}
+use Rattle.reference.specs.Call.{engine_entry, engine_preview, Call, Enter, Ask}
 use Rattle.reference.specs.Answers.{outcome, journal_after}
 use Rattle.protocol.specs.Reply.{reply_to, journal_after_line}
 use Rattle.exports.specs.Numbers.{status_numbers}
@@ -38,3 +38,10 @@ module _ (call : Call) (journal figures : List ℕ) where
 pub record ShortApart : Type 0 where
   pub reply : (line journal out : List ℕ) → reply_count line journal out ≡ 0 → length out < 96
   pub figures : (call : Call) (journal figures : List ℕ) → refusal_given call journal figures ≡ 255 → length figures < 20
+
+-- document 02, W-202, for a program in another language: the preview of an engine returns what its entry would, and leaves the figures that the entry would
+pub record Previews : Type 0 where
+  pub refusal : (number : ℕ) (hcnox co journal figures : List ℕ)
+      → refusal_given (Ask (engine_preview number hcnox co)) journal figures ≡ refusal_given (Enter (engine_entry number hcnox co)) journal figures
+  pub figures : (number : ℕ) (hcnox co journal figures : List ℕ)
+      → figures_left (Ask (engine_preview number hcnox co)) journal figures ≡ figures_left (Enter (engine_entry number hcnox co)) journal figures

@@ -28,7 +28,7 @@ fn setup_from(values: &[u32]) -> Result<Setup, Refusal>
         .map_err(|_| Refusal::LineForm)
 }
 
-// "E: engine number, its HC+NOx readings, as many CO readings. An odd count of readings is refused by 2"; the call judges how many there are. T has the same.
+// "E: engine number, its HC+NOx readings, as many CO readings. An odd count of readings is refused by 2"; the call judges how many there are. T takes the same numbers.
 fn engine_from(values: &[u32]) -> Result<EngineEntry<'_>, Refusal>
     ensures { engine_in result ≡ cond (eqb (length values.now % 2) 1) (Ok (EnterEngine (number_from values.now) (readings_from values.now))) (Err Refusal.LineForm) }
 {

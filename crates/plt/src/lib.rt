@@ -1,9 +1,9 @@
-// Production-line testing for programs in other languages: the key line, an engine's entry and its preview, status and the marks, on a lent journal. include/plt.h has the same
-// functions for C. A slice is a pointer and a length. There is no precondition on what is lent, and the contracts give every byte and number of it.
+// Production-line testing for programs in other languages: the key line, an engine's entry and its preview, status and the marks, on a lent journal.
+// include/plt.h has the same functions for C. A slice is a pointer and a length. There is no precondition on what is lent, and the contracts give every byte and number of it.
 #![tactic(auto)]
 
 ghost use Rattle.std.specs.Prelude.{◌≡◌, ◌<◌};
-ghost use Rattle.reference.specs.Call.{engine_entry, engine_preview, Marks, ReadStatus, Enter, Ask};
+ghost use Rattle.reference.specs.Call.{engine_entry, engine_preview, entry_of, preview_of, Marks, ReadStatus, Enter, Ask};
 ghost use Rattle.reference.specs.Answers.{out_after, output_outcome};
 ghost use Rattle.exports.specs.Exports.{reply_count, reply_left, line_left, refusal_given, figures_left, journal_left};
 
@@ -38,6 +38,17 @@ pub extern "C" fn plt_command(journal: &mut [u8], line: &[u8], out: &mut [u8]) -
     bytes.len()
 }
 
+// An engine as the calls take it.
+fn engine_of<'a>(number: u32, hcnox: &'a [u32], co: &'a [u32]) -> EngineEntry<'a>
+    ensures entry { entry_of result ≡ engine_entry number hcnox.now co.now }
+    ensures preview { preview_of result ≡ engine_preview number hcnox.now co.now }
+{
+    EngineEntry {
+        number,
+        readings: Pair { hcnox, co },
+    }
+}
+
 // An engine with its number and its readings for each pollutant: returns the refusal, 0 for none, and writes the figures of the year with it. With
 // room for under twenty figures, does nothing and returns 255.
 #[tactic(auto, unfolding(exports::specs::Exports::refusal_given, exports::specs::Exports::figures_left, exports::specs::Exports::journal_left))]
@@ -56,14 +67,12 @@ pub extern "C" fn plt_engine(
     if figures.len() < FIGURE_COUNT {
         return TOO_FEW_FIGURES;
     }
-    let engine = EngineEntry {
-        number,
-        readings: Pair { hcnox, co },
-    };
+    let engine = engine_of(number, hcnox, co);
     put_answer(figures, enter_engine(journal, &engine))
 }
 
-// The preview of an engine: returns and writes what `plt_engine` would on the same journal, and leaves the journal.
+// The preview of an engine: returns what `plt_engine` would on the same journal, and writes the figures that it would; the journal is only read. With room for
+// under twenty figures, does nothing and returns 255.
 #[tactic(auto, unfolding(exports::specs::Exports::refusal_given, exports::specs::Exports::figures_left, exports::specs::Exports::journal_left))]
 #[unsafe(no_mangle)]
 pub extern "C" fn plt_ask(
@@ -79,10 +88,7 @@ pub extern "C" fn plt_ask(
     if figures.len() < FIGURE_COUNT {
         return TOO_FEW_FIGURES;
     }
-    let engine = EngineEntry {
-        number,
-        readings: Pair { hcnox, co },
-    };
+    let engine = engine_of(number, hcnox, co);
     put_answer(figures, preview_engine(journal, &engine))
 }
 

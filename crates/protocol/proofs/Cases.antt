@@ -1,9 +1,9 @@
 -- The worked cases of the key line.
 use mathlib.Core.Path.{◌≡◌, refl}
-use mathlib.Core.List.{◌++◌}
+use mathlib.Core.List.{[], ◌∷◌, ◌++◌}
 use lib.ListN.{replicate}
 use Rattle.ascii.specs.Text.{byte, text}
-use Rattle.buffers.specs.Bytes.{put}
+use Rattle.buffers.specs.Bytes.{put, zeros}
 use Rattle.rounding.specs.Result.{nearest_even}
 use Rattle.statistics.specs.Spread.{variation}
 use Rattle.statistics.specs.SampleSize.{t95, sample_size, size_reached}
@@ -20,9 +20,10 @@ use Rattle.ascii.specs.Decimal.{digits, spelt}
 use Rattle.protocol.specs.KeyLine.{spaced_number, spaced_outcome, numbers_from, call_of, command_of}
 use Rattle.ascii.specs.Decimal.{decimal_up_to, decimal}
 use Rattle.protocol.specs.Reply.{reply_to, journal_after_line}
+use Rattle.protocol.specs.Preview.{other_replies}
 use Rattle.protocol.specs.Run.{run}
 use Rattle.protocol.specs.Cases.{Cases}
-use Rattle.protocol.proofs.Run.{document-run}
+use Rattle.protocol.proofs.Run.{document-run, preview-run}
 
 long-line : run (replicate 70 (byte "X") ++ text "\nX\n") ≡ text "NO 1\nNO 7\n"
 unfolding read_as refusals refusal journal_after answer numbers_from call_of command_of decimal_up_to decimal reply_to journal_after_line
@@ -33,10 +34,9 @@ struck-run : run (text "S 5000 365 800 6100 0 0 0 0\nZ\nE 1 998000 5000000\nZ\nL
 unfolding put nearest_even variation t95 sample_size size_reached compared failed undecided periods needs verdict closed admissible can_hold append read_as refusals refusal journal_after answer out_part digits spelt is_number number_at spaced_number numbers_from call_of command_of decimal_up_to decimal reply_to journal_after_line
 struck-run = refl
 
-asked-run : run (text "S 5000 365 800 6100 0 0 0 0\nT 1 998000 5000000\nT 1 900000 5000000\nL\nE 1 998000 5000000\nT 1 998000 5000000\nT 2 1\n")
-    ≡ text "OK 0 0 -- - -\nOK 1 0 -- - -\nOK 1 0 -- - -\nOK\nOK 1 0 -- - -\nNO 10\nNO 2\n"
-unfolding put nearest_even variation t95 sample_size size_reached compared failed undecided periods needs verdict closed admissible can_hold append read_as refusals refusal journal_after answer out_part digits spelt is_number number_at spaced_number numbers_from call_of command_of decimal_up_to decimal reply_to journal_after_line
-asked-run = refl
+previews-replied : other_replies (zeros 544) (text "T 1 1 1" ∷ text "X" ∷ text "T" ∷ text "Y" ∷ []) ≡ text "NO 7" ∷ text "NO 2" ∷ []
+unfolding read_as refusals refusal journal_after answer numbers_from call_of command_of decimal_up_to decimal reply_to journal_after_line spaced_number number_at is_number digits spelt
+previews-replied = refl
 
 pub cases : Cases
 unfolding digits spelt is_number number_at number_outcome spaced_number spaced_outcome numbers_from call_of command_of decimal_up_to decimal
@@ -106,5 +106,7 @@ cases =
       long_line = long-line;
       document_run = document-run;
       struck_run = struck-run;
-      asked_run = asked-run;
+      previews_out = refl;
+      previews_replied = previews-replied;
+      preview_run = preview-run;
     }

@@ -18,7 +18,7 @@ use Rattle.protocol.specs.Number.{is_number, number_at}
 use Rattle.protocol.specs.KeyLine.{space_at, spaced_number, and_then, numbers_from, number_from, readings_from, call_of, Command, Refuse, asked, call_from, command_of}
 use Rattle.protocol.specs.Reply.{answer_reply, command_reply, command_after, reply_to, journal_after_line}
 use Rattle.protocol.specs.Run.{replies, journal_after_lines}
-use Rattle.protocol.specs.Preview.{asks, without_asks, other_replies, AskingPromises}
+use Rattle.protocol.specs.Preview.{is_preview_line, without_preview_lines, other_replies, PreviewLinePromises}
 
 -- ---- the numbers after a letter
 
@@ -111,28 +111,28 @@ module _ (rest journal : List ℕ) where
 
 -- ---- lists of lines
 
-asking-keeps : (line journal : List ℕ) → asks line ≡ true → journal_after_line line journal ≡ journal
-asking-keeps [] journal h = absurd (false≢true h)
-asking-keeps (b ∷ rest) journal h = rw (eqb-true b (byte "T") h) (kept rest journal)
+preview-line-keeps : (line journal : List ℕ) → is_preview_line line ≡ true → journal_after_line line journal ≡ journal
+preview-line-keeps [] journal h = absurd (false≢true h)
+preview-line-keeps (b ∷ rest) journal h = rw (eqb-true b (byte "T") h) (kept rest journal)
 
-left : (journal : List ℕ) (lines : List (List ℕ)) → journal_after_lines journal lines ≡ journal_after_lines journal (without_asks lines)
+left : (journal : List ℕ) (lines : List (List ℕ)) → journal_after_lines journal lines ≡ journal_after_lines journal (without_preview_lines lines)
 left journal [] = refl
-left journal (line ∷ lines) = by (λ j. left j lines) (asks line) refl
+left journal (line ∷ lines) = by (λ j. left j lines) (is_preview_line line) refl
   where
-    by : ((j : List ℕ) → journal_after_lines j lines ≡ journal_after_lines j (without_asks lines)) → (b : Bool) → asks line ≡ b
-        → journal_after_lines (journal_after_line line journal) lines ≡ journal_after_lines journal (cond b (without_asks lines) (line ∷ without_asks lines))
-    by rest true e = rw (asking-keeps line journal e) (rest journal)
+    by : ((j : List ℕ) → journal_after_lines j lines ≡ journal_after_lines j (without_preview_lines lines)) → (b : Bool) → is_preview_line line ≡ b
+        → journal_after_lines (journal_after_line line journal) lines ≡ journal_after_lines journal (cond b (without_preview_lines lines) (line ∷ without_preview_lines lines))
+    by rest true e = rw (preview-line-keeps line journal e) (rest journal)
     by rest false e = rest (journal_after_line line journal)
 
-others : (journal : List ℕ) (lines : List (List ℕ)) → other_replies journal lines ≡ replies journal (without_asks lines)
+others : (journal : List ℕ) (lines : List (List ℕ)) → other_replies journal lines ≡ replies journal (without_preview_lines lines)
 others journal [] = refl
-others journal (line ∷ lines) = by (λ j. others j lines) (asks line) refl
+others journal (line ∷ lines) = by (λ j. others j lines) (is_preview_line line) refl
   where
-    by : ((j : List ℕ) → other_replies j lines ≡ replies j (without_asks lines)) → (b : Bool) → asks line ≡ b
+    by : ((j : List ℕ) → other_replies j lines ≡ replies j (without_preview_lines lines)) → (b : Bool) → is_preview_line line ≡ b
         → cond b (other_replies (journal_after_line line journal) lines) (reply_to line journal ∷ other_replies (journal_after_line line journal) lines)
-        ≡ replies journal (cond b (without_asks lines) (line ∷ without_asks lines))
-    by rest true e = rw (asking-keeps line journal e) (rest journal)
+        ≡ replies journal (cond b (without_preview_lines lines) (line ∷ without_preview_lines lines))
+    by rest true e = rw (preview-line-keeps line journal e) (rest journal)
     by rest false e = ap (λ r. reply_to line journal ∷ r) (rest (journal_after_line line journal))
 
-pub asking-promises : AskingPromises
-asking-promises = record { replied_as = replied-as; kept = kept; left = left; others = others }
+pub preview-line-promises : PreviewLinePromises
+preview-line-promises = record { replied_as = replied-as; kept = kept; left = left; others = others }

@@ -5,7 +5,7 @@ use mathlib.Core.List.{List, [], ◌∷◌}
 use Prim.Native.Nat.{ℕ}
 use lib.Dec.{lit<, lit≤}
 use lib.ListN.{length}
-use Rattle.ascii.specs.Text.{text}
+use Rattle.ascii.specs.Text.{byte, text}
 use Rattle.buffers.specs.Bytes.{put, zeros}
 use Rattle.rounding.specs.Result.{nearest_even}
 use Rattle.statistics.specs.Spread.{variation, deviation}
@@ -38,6 +38,7 @@ use Rattle.protocol.specs.Reply.{refusal_reply, status_reply, reply_to, journal_
 use Rattle.ascii.specs.Decimal.{digits, spelt, decimal_up_to, decimal}
 use Rattle.protocol.specs.Cases.{marked}
 use Rattle.protocol.specs.Run.{printed, run}
+use Rattle.protocol.proofs.Preview.{preview-line-promises}
 use Rattle.protocol.proofs.Steps.{Does, Stored, entry-does, refused-does, marks-does, end, then, runs-replies}
 
 -- the setup of the run
@@ -141,3 +142,20 @@ unfolding decimal_up_to decimal
 document-run =
     ap printed (runs-replies (then lines.line1 (then lines.line2 (then lines.line3 (then lines.line4
     (then lines.line5 (then lines.line6 (then lines.line7 end))))))))
+
+-- the same run with each engine asked about before it is entered, and two of them once more
+previewing : (rest journal reply : List ℕ) {left : List ℕ} → Does (byte "E" ∷ rest) journal reply left → Does (byte "T" ∷ rest) journal reply journal
+previewing rest journal reply entered = record { replied = preview-line-promises.replied_as rest journal ∙ entered.replied; left = preview-line-promises.kept rest journal }
+
+again : Does (text "E 3 900000 5000000") (holding three) (refusal_reply 10) (holding three)
+unfolding nearest_even variation t95 sample_size rounded_up size_reached compared failed undecided periods needs verdict closed admissible append refusals refusal digits spelt is_number number_at spaced_number numbers_from call_of command_of
+again = refused-does (holding three) (text "E 3 900000 5000000") plant three stored-three (entering 3 900000 5000000) 10 refl
+    (simp ((statistics.cases).deviation_at_1024, of-3, deviation-none)) (lit< tt)
+
+pub preview-run : run (text "S 5000 365 800 6100 0 0 0 0\nT 1 998000 5000000\nE 1 998000 5000000\nT 2 1071000 5000000\nE 2 1071000 5000000\nT 3 900000 5000000\nE 3 900000 5000000\nT 3 900000 5000000\nL\nX\nT 4 1 1\n")
+    ≡ text "OK 0 0 -- - -\nOK 1 0 -- - -\nOK 1 0 -- - -\nOK 2 1 ?U 30 10\nOK 2 1 ?U 30 10\nOK 3 1 UU 28 10\nOK 3 1 UU 28 10\nNO 10\nOK --?UUU\nOK 3 7 UU 28 10\nNO 8\n"
+unfolding decimal_up_to decimal
+preview-run =
+    ap printed (runs-replies (then lines.line1 (then (previewing (text " 1 998000 5000000") _ _ lines.line2) (then lines.line2
+    (then (previewing (text " 2 1071000 5000000") _ _ lines.line3) (then lines.line3 (then (previewing (text " 3 900000 5000000") _ _ lines.line4) (then lines.line4
+    (then (previewing (text " 3 900000 5000000") _ _ again) (then lines.line5 (then lines.line6 (then (previewing (text " 4 1 1") _ _ lines.line7) end))))))))))))

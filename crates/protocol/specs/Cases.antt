@@ -11,6 +11,8 @@ use Rattle.protocol.specs.Number.{number_outcome}
 use Rattle.protocol.specs.KeyLine.{spaced_outcome, Make, Refuse, command_of}
 use Rattle.protocol.specs.Reply.{refusal_reply, marks_reply, status_reply}
 use Rattle.ascii.specs.Decimal.{decimal}
+use Rattle.buffers.specs.Bytes.{zeros}
+use Rattle.protocol.specs.Preview.{without_preview_lines, other_replies}
 use Rattle.protocol.specs.Run.{lines_of, run}
 
 -- figures for a reply, which shows only their mark and sample size
@@ -52,12 +54,12 @@ pub record Cases : Type 0 where
   pub many_readings : command_of (text "E 1 2 2 2 2 2 2 2 2 2 2 2 2 2 2 2 3 3 3 3 3 3 3 3 3 3 3 3 3 3 3")
       ≡ Make (Enter (EnterEngine 1 (record { hcnox = replicate 15 2; co = replicate 15 3 })))
   pub odd_readings : command_of (text "E 7 1 2 3") ≡ Refuse 2
+  pub no_number : command_of (text "E") ≡ Refuse 2
   -- T has E's numbers: the HC+NOx readings first, an even count of readings judged by the call, an odd one or no engine number refused by 2
   pub previewed_four : command_of (text "T 7 1 2 3 4") ≡ Make (Ask (Preview 7 (record { hcnox = 1 ∷ 2 ∷ []; co = 3 ∷ 4 ∷ [] })))
   pub previewed_none : command_of (text "T 7") ≡ Make (Ask (Preview 7 (record { hcnox = []; co = [] })))
   pub previewed_odd : command_of (text "T 7 1 2 3") ≡ Refuse 2
   pub previewed_nothing : command_of (text "T") ≡ Refuse 2
-  pub no_number : command_of (text "E") ≡ Refuse 2
   -- 1 to 8 digits, no leading zero but in 0
   pub eight_digits : command_of (text "A 99999999 0") ≡ Make (Enter (EnterChange (Amend (pair 99999999 0))))
   pub nine_digits : command_of (text "A 100000000 0") ≡ Refuse 2
@@ -113,9 +115,13 @@ pub record Cases : Type 0 where
   -- document 01, "Input and print of a whole run"
   pub document_run : run (text "S 5000 365 800 6100 0 0 0 0\nE 1 998000 5000000\nE 2 1071000 5000000\nE 3 900000 5000000\nL\nX\nE 4 1 1\n")
       ≡ text "OK 0 0 -- - -\nOK 1 0 -- - -\nOK 2 1 ?U 30 10\nOK 3 1 UU 28 10\nOK --?UUU\nOK 3 7 UU 28 10\nNO 8\n"
-  -- document 02, W-202: two engines asked about, one of them entered, and asked about again, where the number is in the book
-  pub asked_run : run (text "S 5000 365 800 6100 0 0 0 0\nT 1 998000 5000000\nT 1 900000 5000000\nL\nE 1 998000 5000000\nT 1 998000 5000000\nT 2 1\n")
-      ≡ text "OK 0 0 -- - -\nOK 1 0 -- - -\nOK 1 0 -- - -\nOK\nOK 1 0 -- - -\nNO 10\nNO 2\n"
+  -- document 02, W-202: document 01's run, each engine asked about before it is entered; then a number again, and a closed year
+  pub preview_run : run (text "S 5000 365 800 6100 0 0 0 0\nT 1 998000 5000000\nE 1 998000 5000000\nT 2 1071000 5000000\nE 2 1071000 5000000\nT 3 900000 5000000\nE 3 900000 5000000\nT 3 900000 5000000\nL\nX\nT 4 1 1\n")
+      ≡ text "OK 0 0 -- - -\nOK 1 0 -- - -\nOK 1 0 -- - -\nOK 2 1 ?U 30 10\nOK 2 1 ?U 30 10\nOK 3 1 UU 28 10\nOK 3 1 UU 28 10\nNO 10\nOK --?UUU\nOK 3 7 UU 28 10\nNO 8\n"
+  -- lines of key T, whether they can be read or not, and lines that only begin alike
+  pub previews_out : without_preview_lines (text "T 1 998000 5000000" ∷ text "L" ∷ text "T" ∷ [] ∷ text "Tx" ∷ text "t 1" ∷ text " T" ∷ text "E 1 998000 5000000" ∷ [])
+      ≡ text "L" ∷ [] ∷ text "t 1" ∷ text " T" ∷ text "E 1 998000 5000000" ∷ []
+  pub previews_replied : other_replies (zeros 544) (text "T 1 1 1" ∷ text "X" ∷ text "T" ∷ text "Y" ∷ []) ≡ text "NO 7" ∷ text "NO 2" ∷ []
   -- document 02, W-201: a strike with no engine, an engine, its strike, no marks, the same engine again
   pub struck_run : run (text "S 5000 365 800 6100 0 0 0 0\nZ\nE 1 998000 5000000\nZ\nL\nE 1 998000 5000000\n")
       ≡ text "OK 0 0 -- - -\nNO 17\nOK 1 0 -- - -\nOK 0 0 -- - -\nOK\nOK 1 0 -- - -\n"

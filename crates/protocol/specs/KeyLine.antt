@@ -47,7 +47,7 @@ setup_from vs =
           };
     }
 
--- "E: engine number, its HC+NOx readings, as many CO readings." "Key T, with E's numbers, only asks" (document 02, W-202)
+-- "E: engine number, its HC+NOx readings, as many CO readings." "key T, with E's numbers, only asks" (document 02, W-202)
 abbrev pub number_from : List ℕ → ℕ
 number_from vs = get_or vs 0 0
 

@@ -63,5 +63,6 @@ cases-of-preview =
       model_one = refl;
       journal_one = refl;
       others = refl;
+      queries_stay = refl;
       others_answer = refl;
     }

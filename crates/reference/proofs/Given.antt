@@ -75,6 +75,13 @@ previewed-refusal (Ask ReadStatus) journal = refl
 previewed-refusal (Ask (Write form size)) journal = refl
 previewed-refusal (Ask (Preview n readings)) journal = refl
 
+same-kind : (call : Call) → is_setup (previewed call) ≡ is_setup call
+same-kind (SetUp s) = refl
+same-kind (Enter entry) = refl
+same-kind (Ask ReadStatus) = refl
+same-kind (Ask (Write form size)) = refl
+same-kind (Ask (Preview n readings)) = refl
+
 -- if a call is accepted, the journal has 544 bytes and, unless the call is a setup, holds a year
 module _ (call : Call) (journal : List ℕ) (h : refusal_on call journal ≡ 0) where
   no : (r : ℕ) → applies (refusals_on call journal) r ≡ false
@@ -86,7 +93,7 @@ module _ (call : Call) (journal : List ℕ) (h : refusal_on call journal ≡ 0) 
 
   pub accepted-year : is_setup call ≡ false → no_setup (read_journal journal) ≡ false
   unfolding refusals
-  accepted-year k = let none = no 7 in rw k at none
+  accepted-year k = let none = no 7 in rw (same-kind call ∙ k) at none
 
   pub accepted-refusal : refusal 544 call (read_journal journal) ≡ 0
   accepted-refusal = rw accepted-size at h

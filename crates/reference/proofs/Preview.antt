@@ -8,10 +8,10 @@ use Rattle.conditions.proofs.Tests.{cond_same}
 use Rattle.year.specs.Model.{Model}
 use Rattle.reference.specs.Call.{Readings, Query, Call, SetUp, Enter, Ask}
 use Rattle.reference.specs.Refusals.{refusals, refusal}
-use Rattle.reference.specs.Answers.{refusal_on, journal_after, answer}
+use Rattle.reference.specs.Answers.{refusal_on, journal_after, answer, outcome}
 use Rattle.reference.specs.Model.{step_model, model_of, journal_of}
 use Rattle.reference.specs.Deletion.{engine_call}
-use Rattle.reference.specs.Preview.{preview_call, is_preview, without_previews, others_give, PreviewPromises}
+use Rattle.reference.specs.Preview.{preview_call, is_preview, without_previews, left_by, others_give, PreviewPromises}
 use Rattle.reference.proofs.Demand1.{demand-1}
 use Rattle.reference.proofs.Demand2.{demand-2}
 
@@ -23,6 +23,10 @@ module _ (number : ℕ) (readings : Readings) (journal : List ℕ) where
   pub answered-as : answer (preview_call number readings) journal ≡ answer (engine_call number readings) journal
   unfolding answer refusal refusals
   answered-as = refl
+
+  outcome-as : outcome (preview_call number readings) journal ≡ outcome (engine_call number readings) journal
+  unfolding outcome refusal refusals
+  outcome-as = refl
 
 -- a query leaves the model, accepted or not
 pub query-leaves : (query : Query) (model : Model) → step_model (Ask query) model ≡ model
@@ -46,28 +50,31 @@ module _ {A : Type 0} (step : Call → A → A) (after : List Call → A) (next 
       by before true e = preview-leaves call (after calls) e ∙ before
       by before false e = ap (step call) before ∙ sym (next call (without_previews calls))
 
-journal-same : (calls : List Call) → journal_of calls ≡ journal_of (without_previews calls)
-journal-same = same journal_after journal_of (λ call calls. refl) demand-1.query_kept
+left-same : (journal : List ℕ) (calls : List Call) → left_by journal calls ≡ left_by journal (without_previews calls)
+left-same journal = same journal_after (left_by journal) (λ call calls. refl) demand-1.query_kept
 
-module _ {A : Type 0} (give : Call → List ℕ → A) where
-  others-same : (calls : List Call) → others_give give calls ≡ others_give give (without_previews calls)
+module _ {A : Type 0} (give : Call → List ℕ → A) (journal : List ℕ) where
+  others-same : (calls : List Call) → others_give give journal calls ≡ others_give give journal (without_previews calls)
   others-same [] = refl
   others-same (call ∷ calls) = by (others-same calls) (is_preview call) refl
     where
-      by : others_give give calls ≡ others_give give (without_previews calls) → (b : Bool) → is_preview call ≡ b
-          → cond b (others_give give calls) (give call (journal_of calls) ∷ others_give give calls)
-          ≡ others_give give (cond b (without_previews calls) (call ∷ without_previews calls))
+      by : others_give give journal calls ≡ others_give give journal (without_previews calls) → (b : Bool) → is_preview call ≡ b
+          → cond b (others_give give journal calls) (give call (left_by journal calls) ∷ others_give give journal calls)
+          ≡ others_give give journal (cond b (without_previews calls) (call ∷ without_previews calls))
       by before true e = before
-      by before false e = rw (e, journal-same calls, before)
+      by before false e = rw (e, left-same journal calls, before)
 
 pub preview-promises : PreviewPromises
 preview-promises =
     record {
       refused_as = refused-as;
       answered_as = answered-as;
+      outcome_as = outcome-as;
+      same_engine = λ e. refl;
       kept = λ number readings. demand-1.query_kept _;
       status_after = λ number readings journal h. demand-2.answered (preview_call number readings) journal h;
-      journal = journal-same;
+      left = left-same;
+      journal = same journal_after journal_of (λ call calls. refl) demand-1.query_kept;
       model = same step_model model_of (λ call calls. refl) query-leaves;
       others = others-same;
     }

@@ -51,8 +51,8 @@ abbrev pub status_of : Model → Status
 status_of NoSetup = no_status
 status_of (Year s es) = status 1024 (replay s es)
 
--- "An accepted setup or entry returns the status of the book that it leaves", a preview that of the book which the entry would leave, and the status call that of
--- the book it reads. "A refusal returns its number". (A call that writes an output returns a part and its refusal instead of an answer.)
+-- "An accepted setup or entry returns the status of the book that it leaves", a preview that of the book which the entry would leave (`previewed`), and the status
+-- call that of the book it reads. "A refusal returns its number". (A call that writes an output returns a part and its refusal instead of an answer.)
 unfoldable pub answer : Call → List ℕ → Result Status Refusal
 answer call journal = if_accepted call journal (Ok (status_of (read_journal (journal_after (previewed call) journal)))) (Err (named (refusal_on call journal)))
 

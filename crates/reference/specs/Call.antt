@@ -57,16 +57,14 @@ pub data Call : Type 0 where
   Enter : Entry → Call
   Ask : Query → Call
 
--- the call whose status is answered: for a preview, which "tells the reply, writing nothing" (document 02, W-202), the engine's entry; else the call itself
-abbrev pub query_previewed : Query → Call
-query_previewed ReadStatus = Ask ReadStatus
-query_previewed (Write form size) = Ask (Write form size)
-query_previewed (Preview number readings) = Enter (EnterEngine number readings)
-
+-- the call by which a call is refused and answered: for a preview, which "tells the reply, writing nothing", the engine's entry, since "its reply and refusals equal
+-- those of the first on the same book" (document 02, W-202); for any other call, that call
 abbrev pub previewed : Call → Call
 previewed (SetUp s) = SetUp s
 previewed (Enter entry) = Enter entry
-previewed (Ask query) = query_previewed query
+previewed (Ask ReadStatus) = Ask ReadStatus
+previewed (Ask (Write form size)) = Ask (Write form size)
+previewed (Ask (Preview number readings)) = Enter (EnterEngine number readings)
 
 -- the results computed from an engine's readings
 abbrev pub results_of : Setup → Readings → Pair ℕ
@@ -90,17 +88,11 @@ is_setup (SetUp s) = true
 is_setup (Enter entry) = false
 is_setup (Ask query) = false
 
--- a test of an engine's preview; false for any other query
-abbrev pub of_preview : (ℕ → Readings → Bool) → Query → Bool
-of_preview test ReadStatus = false
-of_preview test (Write form size) = false
-of_preview test (Preview number readings) = test number readings
-
--- "the call would add an event": the entries do. A preview is refused as if it did: "its reply and refusals equal those of the first on the same book" (W-202)
+-- "the call would add an event": the entries do
 abbrev pub adds_event : Call → Bool
 adds_event (SetUp s) = false
 adds_event (Enter entry) = true
-adds_event (Ask query) = of_preview (λ number readings. true) query
+adds_event (Ask query) = false
 
 -- A test of the arguments of one kind of call; false for any other call.
 abbrev pub of_setup : (Setup → Bool) → Call → Bool
@@ -108,11 +100,10 @@ of_setup test (SetUp s) = test s
 of_setup test (Enter entry) = false
 of_setup test (Ask query) = false
 
--- of an entry, and of a preview as of the engine's entry
 abbrev pub of_entry : (Entry → Bool) → Call → Bool
 of_entry test (SetUp s) = false
 of_entry test (Enter entry) = test entry
-of_entry test (Ask query) = of_preview (λ number readings. test (EnterEngine number readings)) query
+of_entry test (Ask query) = false
 
 abbrev pub of_query : (Query → Bool) → Call → Bool
 of_query test (SetUp s) = false
@@ -150,3 +141,8 @@ abbrev pub of_marks : (ℕ → Bool) → Query → Bool
 of_marks test ReadStatus = false
 of_marks test (Write Marks size) = test size
 of_marks test (Preview number readings) = false
+
+abbrev pub of_preview : (ℕ → Readings → Bool) → Query → Bool
+of_preview test ReadStatus = false
+of_preview test (Write form size) = false
+of_preview test (Preview number readings) = test number readings

@@ -1,4 +1,5 @@
--- Worked cases of the preview (document 02, W-202): it is refused as the engine's entry is, answers with the engine, and writes nothing. Lists have the newest first.
+-- Worked cases of the preview (document 02, W-202): it is refused as the engine's entry is, answers what that would, and writes nothing. Lists have the newest
+-- first.
 use Rattle.std.specs.Prelude.{◌≡◌, List, [], ◌∷◌, ℕ, replicate, Ok, Err}
 use Rattle.buffers.specs.Bytes.{zeros}
 use Rattle.year.specs.declared.Event.TheVariants.{Amendment, Declaration, Deletion}
@@ -10,14 +11,14 @@ use Rattle.reference.specs.Call.{engine_preview, ReadStatus, Call, Ask}
 use Rattle.reference.specs.Refusals.{refusal}
 use Rattle.reference.specs.Answers.{no_status, answer, journal_after}
 use Rattle.reference.specs.Model.{model_of, journal_of}
-use Rattle.reference.specs.Cases.{year_of, setup_with, new_year, engine_one}
+use Rattle.reference.specs.Cases.{year_of, setup_with, marks_into, new_year, engine_one}
 use Rattle.reference.specs.Preview.{without_previews, others_give}
 
 -- the preview of an engine with these readings
 abbrev pub previewing : ℕ → List ℕ → List ℕ → Call
 previewing number hcnox co = Ask (engine_preview number hcnox co)
 
--- of the printed run's first engine
+-- the preview of the printed run's first engine
 abbrev pub preview_one : Call
 preview_one = previewing 1 (998000 ∷ []) (5000000 ∷ [])
 
@@ -50,5 +51,7 @@ pub record CasesOfPreview : Type 0 where
   pub model_one : model_of (preview_one ∷ engine_one ∷ preview_one ∷ preview_one ∷ new_year ∷ []) ≡ year_of (engine 1 998 ∷ [])
   pub journal_one : journal_of (preview_one ∷ engine_one ∷ preview_one ∷ preview_one ∷ new_year ∷ []) ≡ encode 1 (setup_of 5000 800) (engine 1 998 ∷ [])
   pub others : without_previews (preview_one ∷ engine_one ∷ preview_one ∷ preview_one ∷ new_year ∷ []) ≡ engine_one ∷ new_year ∷ []
-  pub others_answer : others_give answer (preview_one ∷ engine_one ∷ preview_one ∷ preview_one ∷ new_year ∷ [])
+  -- status and marks calls are no previews, and stay in the list
+  pub queries_stay : without_previews (preview_one ∷ Ask ReadStatus ∷ preview_one ∷ marks_into 2 ∷ []) ≡ Ask ReadStatus ∷ marks_into 2 ∷ []
+  pub others_answer : others_give answer (zeros 544) (preview_one ∷ engine_one ∷ preview_one ∷ preview_one ∷ new_year ∷ [])
       ≡ Ok (record { n = 1; verdict = 0; figures = record { hcnox = only_sum 998; co = only_sum 5000 } }) ∷ Ok no_status ∷ []

@@ -54,8 +54,8 @@ pub record Demand2 : Type 0 where
   -- accepted journal "could have been entered in that order" (document 01, "The book")
   pub could_enter : (entry : Entry) (journal : List ℕ) (s : Setup) (es : List Event) → read_journal journal ≡ Year s es
       → admissible (replay s es) (event_of (replay s es) entry) ≡ true → unreadable entry ≡ false → refusal_on (Enter entry) journal ≡ 0
-  -- what is answered: each figure of the year that the journal then holds (after an accepted call it holds one), which is what status answers on that journal; for
-  -- a preview (document 02, W-202), of the journal that the engine's entry would leave (`previewed`)
+  -- what is answered: each figure of the year that the journal then holds (after an accepted call it holds one), which is what status answers on that journal.
+  -- For a preview (document 02, W-202) that journal is the one which the engine's entry would leave (`previewed`)
   pub held : (call : Call) (journal : List ℕ) → refusal_on call journal ≡ 0 → no_setup (read_journal (journal_after (previewed call) journal)) ≡ false
   pub shown : (call : Call) (journal : List ℕ) (s : Setup) (es : List Event) → refusal_on call journal ≡ 0
       → read_journal (journal_after (previewed call) journal) ≡ Year s es → Shows (outcome_of (answer call journal)).status (replay s es)

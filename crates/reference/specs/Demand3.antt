@@ -1,5 +1,5 @@
 -- Demand 3: finer work compared with what the calls give, after every list of calls on one journal that starts all zero, and on every accepted journal. Strikes
--- stand in the lists, and the engines are those that remain (document 02, W-201); and previews, which change nothing (W-202).
+-- and previews stand in the lists; the engines are those that remain (document 02, W-201), and a preview changes nothing (W-202).
 use Rattle.std.specs.Prelude.{◌≡◌, true, false, List, map, reverse, ℕ, ◌*◌, ◌≤◌, length, Err}
 use Rattle.buffers.specs.Bytes.{put}
 use Rattle.cumsum.specs.declared.Mark.{Mark}

@@ -7,7 +7,7 @@ use Rattle.year.specs.Setup.{both, standards_in_range, production_in_range, fact
 use Rattle.year.specs.Replay.{short, is_tested, newest_in}
 use Rattle.year.specs.Admissible.{closed, events_full, engines_full, number_in_range, results_in_range, last_period}
 use Rattle.year.specs.Model.{Model, no_setup, of_year}
-use Rattle.reference.specs.Call.{Readings, readings_of, Call, results_of, is_setup, adds_event, of_setup, of_entry, of_query, of_engine, of_change, of_amendment, of_period, of_deletion, of_marks}
+use Rattle.reference.specs.Call.{Readings, readings_of, Call, results_of, previewed, is_setup, adds_event, of_setup, of_entry, of_query, of_engine, of_change, of_amendment, of_period, of_deletion, of_marks}
 
 -- "The reading counts differ or are not 1 to 3."
 abbrev pub counts_fit : Readings → Bool
@@ -21,9 +21,9 @@ all_in_range (x ∷ xs) = reading_in_range x && all_in_range xs
 abbrev pub readings_fit : Readings → Bool
 readings_fit readings = both (λ q. all_in_range (readings_of q readings))
 
--- the table, for a journal buffer of this size that holds this year
-unfoldable pub refusals : ℕ → Call → Model → List Row
-refusals size call model =
+-- the table, for a journal buffer of this size that holds this year; a preview is refused by the rows of the engine's entry (`refusals` below)
+abbrev pub rows : ℕ → Call → Model → List Row
+rows size call model =
     -- The book buffer is not 544 bytes.
     (not (eqb size 544), 3)
     -- P or D is out of range.
@@ -55,6 +55,10 @@ refusals size call model =
     -- The strip buffer has under 2n bytes.
     ∷ (of_query (of_marks (λ size. of_year (λ p. ltb size (2 * length p.tested)) model)) call, 16)
     ∷ []
+
+-- the rows by which a call is refused. A preview has those of the engine's entry (document 02, W-202)
+unfoldable pub refusals : ℕ → Call → Model → List Row
+refusals size call model = rows size (previewed call) model
 
 -- demand 1: "the first that applies, in 01's order, is the one returned"; 0 if none does
 unfoldable pub refusal : ℕ → Call → Model → ℕ

@@ -39,7 +39,7 @@ impl From<Refusal> for u8 {
     }
 }
 
-// An accepted setup, entry or status gives the status; a refused call gives its refusal.
+// An accepted setup, entry, preview or status call gives a status; a refused call gives its refusal.
 pub type Answer = Result<Status, Refusal>;
 
 // An engine: its number, and its readings for each pollutant.
