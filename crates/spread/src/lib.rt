@@ -3,6 +3,7 @@
 #![tactic(auto)]
 
 pub mod squareroot;
+pub mod start;
 pub mod summing;
 pub mod variance;
 

@@ -1,13 +1,12 @@
--- The guess r is at least the root, and q is x / r. Each step leads lower.
-use Rattle.std.proofs.Common.{◌≡◌, ◌+◌, ◌*◌, ◌/◌, ◌^◌, ◌<◌}
+-- The guess r is at least the root. Each step leads lower.
+use Rattle.std.proofs.Common.{◌+◌, ◌*◌, ◌^◌, ◌<◌}
 use Rattle.spread.proofs.squareroot.root_from.Given as goal
 
-abbrev pub invariant-loop-q : goal.invariant-loop-q
-invariant-loop-q l = record {
+abbrev pub invariant-loop-r : goal.invariant-loop-r
+invariant-loop-r l = record {
   not_below : l.fn.x < (l.r + 1) * (l.r + 1);
-  quotient : l.q ≡ l.fn.x / l.r;
-  small : l.r < 2 ^ 63;
+  small : l.r < 2 ^ 32;
 }
 
-abbrev pub decreases-loop-q : goal.decreases-loop-q
-decreases-loop-q l = l.r
+abbrev pub decreases-loop-r : goal.decreases-loop-r
+decreases-loop-r l = l.r
