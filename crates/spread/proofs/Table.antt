@@ -17,25 +17,28 @@ use Rattle.statistics.proofs.Root.{root-unique, root-passes, root-most}
 use Rattle.spread.specs.declared.start.TheConstants.{ROOTS}
 use Rattle.spread.specs.Start.{TableRule}
 
--- the test of an entry, with its place before it
+-- the test of an entry, its place before it
 abbrev is_root : ℕ × ℕ → Bool
-is_root numbered = leb (numbered.1 * numbered.1) numbered.0 && ltb numbered.0 ((numbered.1 + 1) * (numbered.1 + 1))
+is_root (j, entry) = leb (entry * entry) j && ltb j ((entry + 1) * (entry + 1))
 
 whole_table : list_all is_root (enumerate_from 0 ROOTS) ≡ true
 whole_table = refl
 
--- what passes a test everywhere passes it at each entry
-at_entry : (test : ℕ × ℕ → Bool) (xs : List ℕ) → list_all test (enumerate_from 0 xs) ≡ true → (j : ℕ) → j < length xs → test (j, get_or xs j 0) ≡ true
-at_entry test xs all j h =
-    let place : get_or (enumerate_from 0 xs) j (0, 0) ≡ (j, get_or xs j 0) = get_or-enumerate_from 0 xs j (0, 0) h ∙ ap (λ k. (k, get_or xs j 0)) (zero-add j) in
+-- what passes a test everywhere passes it at each place
+at_place : (test : ℕ × ℕ → Bool) (xs : List ℕ) → list_all test (enumerate_from 0 xs) ≡ true → (j : ℕ) → j < length xs → test (j, get_or xs j 0) ≡ true
+at_place test xs all j h =
+    let numbered = enumerate_from 0 xs in
+    let place : get_or numbered j (0, 0) ≡ (j, get_or xs j 0) = get_or-enumerate_from 0 xs j (0, 0) h ∙ ap (λ k. (k, get_or xs j 0)) (zero-add j) in
     subst (λ p. test p ≡ true) place
-    (All-get_or (λ p. test p ≡ true) (enumerate_from 0 xs) j (0, 0) (rw (length-enumerate_from 0 xs) h) (AllPass-from_list_all test (enumerate_from 0 xs) all))
+    (All-get_or (λ p. test p ≡ true) numbered j (0, 0) (rw (length-enumerate_from 0 xs) h) (AllPass-from_list_all test numbered all))
 
-tested : (j : ℕ) → j < 1024 → (leb (get_or ROOTS j 0 * get_or ROOTS j 0) j ≡ true) × (ltb j ((get_or ROOTS j 0 + 1) * (get_or ROOTS j 0 + 1)) ≡ true)
-tested j h = (and-eq-true_iff _ _).0 (at_entry is_root ROOTS whole_table j h)
+root-if_passes : (j r : ℕ) → is_root (j, r) ≡ true → r ≡ root 1 j
+root-if_passes j r h =
+    let both = (and-eq-true_iff (leb (r * r) j) (ltb j ((r + 1) * (r + 1)))).0 h in
+    sym (root-unique 1 (lit< tt) j r (omega (arith, leb-true _ _ both.0)) (omega (arith, ltb-true _ _ both.1)))
 
 pub entry_is_root : (j : ℕ) → j < 1024 → get_or ROOTS j 0 ≡ root 1 j
-entry_is_root j h = sym (root-unique 1 (lit< tt) j (get_or ROOTS j 0) (omega (arith, leb-true _ _ (tested j h).0)) (omega (arith, ltb-true _ _ (tested j h).1)))
+entry_is_root j h = root-if_passes j (get_or ROOTS j 0) (at_place is_root ROOTS whole_table j h)
 
 pub table_rule : TableRule
 table_rule =

@@ -51,7 +51,7 @@ const ROOTS: [u8; 1024] = [
 
 // The root of a number below 1,024, the entry at its place.
 #[tactic(auto, using(crate::proofs::Table::entry_is_root))]
-fn entry(j: u64) -> u64
+pub fn entry(j: u64) -> u64
     requires { j < 1024 }
     ensures { result ≡ root 1 j }
 {
