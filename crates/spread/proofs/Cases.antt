@@ -30,6 +30,7 @@ cases =
       from_16 = refl;
       below_31 = refl;
       last = refl;
+      past = refl;
       equal = record { not_above = omega (arith, root-288); not_below = omega (arith, root-288) };
       a_sixteenth = record { not_above = omega (arith, root-289); not_below = omega (arith, root-289) };
       above = λ n. absurd (omega (arith, n.not_above, root-288));

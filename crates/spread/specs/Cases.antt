@@ -16,6 +16,8 @@ pub record Cases : Type 0 where
   pub from_16 : get_or ROOTS 256 0 ≡ 16
   pub below_31 : get_or ROOTS 960 0 ≡ 30
   pub last : get_or ROOTS 1023 0 ≡ 31
+  -- and none after it: past the end `get_or` gives 0
+  pub past : get_or ROOTS 1024 0 ≡ 0
   -- the root itself; and it may exceed the start by a sixteenth of the start
   pub equal : Near 288 16
   pub a_sixteenth : Near 289 16
