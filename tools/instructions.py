@@ -1,7 +1,7 @@
 #!/usr/bin/env python3
 """instructions.py [ARCHIVE]: instructions that one call of libplt.a executes, counted by callgrind (valgrind). Unlike a time, a count is the same in every run.
 
-The calls are made on a journal of ten engines, which is keyed first and not counted, and on a full one of forty; each call gets a copy of its own."""
+Each call is made in a program of its own, on a journal of ten engines or of forty, whose entries are keyed first and not counted."""
 import pathlib
 import subprocess
 import sys
@@ -17,10 +17,11 @@ static uint8_t journal[PLT_JOURNAL_SIZE], reply[PLT_REPLY_SIZE], marks[80];
 static uint64_t figures[PLT_FIGURE_COUNT];
 static size_t written;
 static void key(const char *line) { plt_command(journal, sizeof journal, (const uint8_t *)line, strlen(line), reply, sizeof reply); }
-__attribute__((noinline)) void counted(const char *call, size_t length) {
-    if (length == 6) plt_status(journal, sizeof journal, figures, PLT_FIGURE_COUNT);
-    else if (length == 5) plt_marks(journal, sizeof journal, marks, sizeof marks, &written);
-    else plt_command(journal, sizeof journal, (const uint8_t *)call, length, reply, sizeof reply);
+static int is_status, is_marks;
+__attribute__((noinline)) void counted(const char *line, size_t length) {
+    if (is_status) plt_status(journal, sizeof journal, figures, PLT_FIGURE_COUNT);
+    else if (is_marks) plt_marks(journal, sizeof journal, marks, sizeof marks, &written);
+    else plt_command(journal, sizeof journal, (const uint8_t *)line, length, reply, sizeof reply);
 }
 int main(int count, char **calls) {
     if (count != 3) return 2;
@@ -32,11 +33,12 @@ int main(int count, char **calls) {
         key(line);
         if (number > engines / 2) key("P");
     }
+    is_status = !strcmp(calls[1], "status"), is_marks = !strcmp(calls[1], "marks");
     counted(calls[1], strlen(calls[1]));
     return 0;
 }
 '''
-# name, call, and how many engines its journal holds
+# name, call (a key line, or status or marks by the library's functions), and how many engines its journal holds
 CALLS = [
     ('engine command, 1 reading, ten engines', 'E 5000 771000 5002000', 10),
     ('engine command, 3 readings, ten engines', 'E 5000 771000 780400 765999 5002000 5011111 4990000', 10),
