@@ -69,8 +69,8 @@ enum plt_verdict {
     PLT_VERDICT_SHORT = 0,               /* the current period lacks engines */
     PLT_VERDICT_CONTINUE = 1,            /* continue testing */
     PLT_VERDICT_SAMPLE_SIZE_REACHED = 2, /* stop: for both pollutants n is greater than N, and the mean is not above the standard */
-    PLT_VERDICT_THIRTY_TESTED = 3,       /* stop: thirty engines or more */
-    PLT_VERDICT_ONE_PERCENT_TESTED = 4,  /* stop: one percent of the projected volume */
+    PLT_VERDICT_THIRTY_TESTED = 3,       /* stop: thirty engines or more, failing ones among them */
+    PLT_VERDICT_ONE_PERCENT_TESTED = 4,  /* stop: one percent of the projected volume, without engines that fail a standard */
     PLT_VERDICT_UNDECIDED = 5,           /* two consecutive marks 'O' or '?', not both 'O' */
     PLT_VERDICT_FAILED = 6,              /* a pollutant has 'O' at two consecutive engines */
     PLT_VERDICT_DECLARED = 7             /* declared by the manufacturer */

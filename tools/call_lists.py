@@ -1,5 +1,5 @@
 #!/usr/bin/env python3
-"""Input and expected output of the test program call_lists, from document 01 and W-201 and W-202 of document 02 alone (tools/model.py).
+"""Input and expected output of the test program call_lists, from document 01 and W-201, W-202 and W-204 of document 02 alone (tools/model.py).
 
 Run from the repository's root, it writes crates/call_lists/stdin and crates/call_lists/stdout. It shares nothing with the calculator.
 
@@ -32,7 +32,7 @@ import sys
 from collections import Counter
 from itertools import combinations
 from damaged_journals import literal_marks
-from model import K, MAX_ENGINES, MAX_EVENTS, SIZE, Pollutant, Year, encode, factor_ok, first_refusal, read, result_of, self_check, standard_ok, version
+from model import K, MAX_ENGINES, MAX_EVENTS, SIZE, Pollutant, Year, encode, factor_ok, first_refusal, read, result_of, round_even, self_check, standard_ok, version
 
 ARRAY, STRIP = 560, 100
 MOST_LINES = 40000      # so many the test program reads
@@ -88,6 +88,17 @@ def remaining(events):
         else:
             left.append(ev)
     return left
+
+
+def passing_among(setup, events):
+    """How many engines pass, of events without strikes: each under the standards set by the amendment before it."""
+    standards, passing = setup[2:4], 0
+    for ev in events:
+        if ev[0] == 'A':
+            standards = ev[1:]
+        elif ev[0] == 'E':
+            passing += ev[3] <= standards[0] and ev[4] <= standards[1]
+    return passing
 
 
 class Finer(Year):
@@ -186,6 +197,7 @@ class Lists:
         self.refusals, self.verdicts, self.marks, self.pairs = Counter(), Counter(), Counter(), Counter()
         self.strips, self.settled = Counter(), Counter()
         self.struck_after, self.versions = Counter(), Counter()
+        self.percents = Counter()           # verdicts 1, 3 and 4, whether all, some or no engines pass, and whether n is at least one percent
         self.asking, self.chance = 0, random.Random(202)    # the share of engines that put asks about before it enters them
 
     def book(self):
@@ -288,7 +300,15 @@ class Lists:
             self.marks[figures(p)[-1]] += 1
         if version(year.events) == 2:
             self.as_if_never_entered(year)
+        if year.verdict() in (1, 3, 4):
+            self.one_percent(year)
         return status_of(year)
+
+    def one_percent(self, year):
+        """Verdict 3 counts every engine, 4 those that pass, here counted anew from the events."""
+        n, one, passing = year.n(), round_even(year.setup[0], 100), passing_among(year.setup, remaining(year.events))
+        assert year.verdict() == (3 if n >= 30 else 4 if passing >= one else 1)
+        self.percents[year.verdict(), 'all' if passing == n else 'some' if passing else 'none', n >= one] += 1
 
     def as_if_never_entered(self, year):
         """The figures are those without the struck engines; right after an engine and its strike, those before both."""
@@ -535,21 +555,32 @@ def verdicts(o):
     o.Q(verdict=3), o.L(66)
     o.title('verdict 4', 'one percent of 2,850 is 28, of 2,950 is 30: then 3; engines of all periods count')
     o.S(2850, 365, 1000, 6100)
-    o.engines(1, [900, 1100] * 13 + [900], [6000, 6200] * 13 + [6000])
+    o.engines(1, [900, 1000] * 13 + [900], 6100)
     o.Q(verdict=1)
-    o.engines(28, [1100], [6200])
+    o.engines(28, [1000], 6100)
     o.Q(verdict=4)
     o.S(2950, 365, 1000, 6100)
-    o.engines(1, [900, 1100] * 14 + [900], [6000, 6200] * 14 + [6000])
+    o.engines(1, [900, 1000] * 14 + [900], 6100)
     o.Q(verdict=1)
-    o.engines(30, [1100], [6200])
+    o.engines(30, [1000], 6100)
     o.Q(verdict=3)
+    o.S(1600, 301, 1000, 6100)
+    for j in range(16):
+        o.engines(j + 1, [900 + 100 * (j % 2)], 6100)
+        if j in (2, 8):
+            o.P()
+    o.Q(verdict=4), o.L(32)
+    o.title('verdict 4 counts only engines that pass', 'of 28 by turns above and below the standards 14 pass: one percent of 1,450 is 14, of 1,550 is 16')
+    for volume, verdict in ((2850, 1), (1550, 1), (1450, 4)):
+        o.S(volume, 365, 1000, 6100)
+        o.engines(1, [900, 1100] * 14, [6000, 6200] * 14)
+        o.Q(verdict=verdict)
     o.S(1600, 301, 1000, 6100)
     for j in range(16):
         o.engines(j + 1, [900 + 200 * (j % 2)], [6000 + 200 * (j % 2)])
         if j in (2, 8):
             o.P()
-    o.Q(verdict=4), o.L(32)
+    o.Q(verdict=1), o.L(32)
     o.title('verdict 5', "'?' then 'O', which stays through later engines; by CO; a declaration is 7, a failure 6")
     o.S(5000, 365, 800, 6100)
     o.engines(1, [998, 1071, 926])
@@ -1185,7 +1216,7 @@ def verdicts_struck(o):
     o.Q(verdict=3), o.Z(), shown(o, verdict=1), o.engines(30, [1090]), o.Q(verdict=3), o.P(), o.Q(verdict=0), o.Z(want=17), o.engines(31, [900]), o.Q(verdict=3)
     o.Z(), shown(o, verdict=0)
     o.S(2850, 365, 1000, 6100)
-    o.engines(1, [900, 1100] * 14, [6000, 6200] * 14)
+    o.engines(1, [900, 1000] * 14, 6100)
     o.Q(verdict=4), o.Z(), shown(o, verdict=1), o.Z(), shown(o, verdict=1)
     o.S(5000, 365, 800, 6100)
     o.engines(1, [998, 1071, 926])
@@ -1598,7 +1629,7 @@ def asked_verdicts(o):
             o.T(3, 1000 * x, 5000000, verdict=verdict), shown(o, verdict=1)
     o.A(1000, 6100), o.E(3, 1195000, 5000000), shown(o, verdict=1)
     for volume, hcnox, co, before, verdict in ((1500, [800] * 2, [5000] * 2, 0, 2), (99999999, [900, 1100] * 15, [6000, 6200] * 15, 1, 3),
-                                               (2850, [900, 1100] * 14, [6000, 6200] * 14, 1, 4)):
+                                               (2850, [900, 1000] * 14, [6100] * 28, 1, 4)):
         o.S(volume, 365, 1000, 6100)
         o.engines(1, hcnox[:-1], co)
         o.T(len(hcnox), 1000 * hcnox[-1], 1000 * co[-1], verdict=verdict), shown(o, before)
@@ -1642,6 +1673,51 @@ def asked_then_periods(o):
     o.S(1500, 365, 1000, 6100)
     o.engines(1, [900, 900]), o.T(3, 900000, 5000000), o.A(700, 6000), o.T(3, 900000, 5000000), o.Z(), o.T(2, 900000, 5000000), shown(o, verdict=0)
     o.engines(2, [900]), shown(o)
+
+# -------------------------------- W-204: failing engines and one percent
+
+
+def failing(o):
+    o.title('every engine fails', 'one percent of 51 is 1, of 50 it is 0; HC+NOx alone above its standard, CO alone; equal to both is no failure')
+    for volume, verdict in ((51, 1), (50, 4), (150, 1)):
+        for hcnox, co in ((1001, 5000), (1000, 6101), (1001, 6101)):
+            o.S(volume, 365, 1000, 6100)
+            o.engines(1, [hcnox] * 2, co), o.Q(verdict=verdict), o.L(4)
+    o.S(150, 365, 1000, 6100)
+    o.engines(1, [1000] * 2, 6100), o.Q(verdict=4), o.L(4)
+    o.title('each pollutant above by turns', 'no engine passes; and results decide, not readings: 1,000.5 rounds to the standard, 1,000.6 to one above')
+    o.S(150, 365, 1000, 6100)
+    o.engines(1, [1001, 990, 1001], [6000, 6101, 6000]), o.Q(verdict=1)
+    for reading, verdict in ((1000400, 4), (1000500, 4), (1000600, 1)):
+        o.S(150, 365, 1000, 6100)
+        o.E(1, reading, 6100000), o.E(2, reading, 6100000), o.Q(verdict=verdict)
+    o.title('the standards in force when an engine was entered', 'amended after two engines and between them, down and up')
+    for before, after, results, verdict in ((1000, 10, [1000] * 2, 4), (1000, 20000, [1001] * 2, 1)):
+        o.S(150, 365, before, 6100)
+        o.engines(1, results, 6100), o.Q(verdict=verdict), o.A(after, 20000), o.Q(verdict=verdict), o.A(after, 10), o.Q(verdict=verdict)
+    for between, result, verdict in ((1010, 1001, 4), (990, 1000, 1)):
+        o.S(150, 365, 1000, 6100)
+        o.engines(1, [1000], 6100), o.A(between, 6100), o.engines(2, [result], 6100), o.Q(verdict=verdict)
+    failing_struck(o)
+    failing_thirty(o)
+
+
+def failing_struck(o):
+    o.title('a struck engine is not counted', 'passing engines struck and entered anew as failing ones, and the other way round')
+    o.S(150, 365, 1000, 6100)
+    o.engines(1, [1001, 1000, 1000]), o.Q(verdict=4), o.Z(), o.Q(verdict=1), o.engines(3, [1001]), o.Q(verdict=1), o.Z(), o.engines(3, [1000]), o.Q(verdict=4)
+    o.title('engines of all periods are counted', 'two in the first, one in each later one; one percent of 1,600 is 16')
+    o.S(1600, 301, 1000, 6100)
+    o.engines(1, [1001, 1000]), o.P(), o.engines(3, [1000]), o.P(), o.engines(4, [1000]), o.P(), o.engines(5, [1000] * 12)
+    o.Q(verdict=1), o.engines(17, [1000]), o.Q(verdict=4), o.L(34)
+
+
+def failing_thirty(o):
+    o.title('thirty that fail', 'engine 1, whose C is 0, is far above, the others one above: verdict 3 counts every engine; 29 are one percent of 2,900')
+    for volume, verdict in ((2900, 1), (50, 4)):
+        o.S(volume, 365, 1000, 6100)
+        o.engines(1, [20000] + [1001] * 28), o.Q(verdict=verdict), o.L(58)
+        o.engines(30, [1001]), o.Q(verdict=3), o.Z(), o.Q(verdict=verdict), o.engines(30, [1000] * 11), o.Q(verdict=3), o.L(80)
 
 # -------------------------------------------------------------- the counts
 
@@ -1693,6 +1769,8 @@ def counts(o):
     assert set(o.marks) == set(o.strips) == set('-OU?')
     tell('open marks that work at m settles', dict(o.settled))
     assert all(o.settled.values())
+    tell('verdicts 1, 3 and 4, how many engines pass, n at least one percent', dict(sorted(o.percents.items())))
+    assert {(verdict, passing, True) for verdict in (1, 3, 4) for passing in ('some', 'none')} <= set(o.percents) and (4, 'all', True) in o.percents
     met = check_asks(o)
     tell('refusal and verdict of asks right before their engines', dict(sorted(met.items())))
     assert set(met) == {(0, verdict) for verdict in range(7)} | {(refusal, 0) for refusal in ROWS['T']}
@@ -1703,7 +1781,7 @@ def main():
     o = Lists()
     for section in (whole_run, starred, slips, verdicts, before_setup, alone, at_once, ranges, largest, damaged, by_hand, mid_year, random_lists,
                     strikes, strikes_and_amendments, strikes_in_periods, verdicts_struck, full_of_strikes, strikes_refused, struck_books, struck_by_hand,
-                    struck_lists, asks, asked_lists):
+                    struck_lists, asks, asked_lists, failing):
         at = len(o.input)
         o.asking = 0 if section is asks else 0.25 if section in (random_lists, struck_lists) else 1
         section(o)

@@ -1,5 +1,5 @@
 #!/usr/bin/env python3
-"""Expected output of examples/figures.c on the worked years, from document 01 and W-201 and W-202 of document 02 alone (tools/model.py).
+"""Expected output of examples/figures.c on the worked years, from document 01 and W-201, W-202 and W-204 of document 02 alone (tools/model.py).
 
 Run from the repository's root, it writes tests/figures.txt: all worked years one after another, in the order of tools/runs.py.
 """

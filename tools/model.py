@@ -1,5 +1,5 @@
-"""Reference model of document 01, and of W-201 and W-202 in document 02, from these alone: readings and results, figures, marks, sample size, verdict, refusals of
-entries, what an ask tells, the 544-byte book.
+"""Reference model of document 01, and of W-201, W-202 and W-204 in document 02, from these alone: readings and results, figures, marks, sample size, verdict,
+refusals of entries, what an ask tells, the 544-byte book.
 
 It shares nothing with the calculator. The tools beside it make the test programs' input and expected output from it.
 Events are tuples: ('E', number, readings, hcnox, co), ('A', hcnox, co), ('P',), ('D',) for a declaration, ('Z',) for a strike.
@@ -181,6 +181,10 @@ class Year:
     def short(self):
         return sum(engine.period == self.period for engine in self.engines) < needed(self.period)
 
+    def passing(self):
+        """Engines with both results at or below the standards in force when they were entered."""
+        return sum(all(x <= t for x, t in zip(engine.results, engine.standards)) for engine in self.engines)
+
     def can_strike(self):
         """The newest engine that remains was entered in the current period."""
         return self.n() > 0 and self.engines[-1].period == self.period
@@ -203,7 +207,7 @@ class Year:
             return 2
         if n >= 30:
             return 3
-        if n >= round_even(self.setup[0], 100):
+        if self.passing() >= round_even(self.setup[0], 100):
             return 4
         return 1
 
@@ -341,7 +345,7 @@ def read(buf):
             return None
     return setup, events
 
-# ------------------------------ cases of document 01, and of W-201 and W-202
+# ----------------------- cases of document 01, and of W-201, W-202 and W-204
 
 
 def E(number, readings, xh, xc):
@@ -422,6 +426,7 @@ def self_check():
     strikes_in_books()
     asks_of_years()
     asks_refused()
+    failing_engines()
 
 
 def strikes_of_years():
@@ -464,6 +469,31 @@ def strikes_of_years():
     y = enter_all((5000, 365, 800, 6100, 0, 0, 0, 0), [E(j, 1, 0, 0) for j in range(1, 41)])
     assert y.enter(E(41, 1, 0, 0)) == 14 and y.enter(Z) == 0 and y.enter(E(41, 1, 0, 0)) == 0 and y.enter(E(40, 1, 0, 0)) == 14 and y.n() == 40
     assert [first_refusal(held) for held in ((), {10, 17}, {9, 17}, {16, 3}, {17})] == [0, 17, 9, 3, 17]
+
+
+def failing_engines():
+    """W-204: verdict 4 counts only engines that pass, verdict 3 counts every engine."""
+    def verdict_of(volume, events, k=K):
+        return enter_all((volume, 365, 800, 6100, 0, 0, 0, 0), events, k).verdict()
+
+    def two(first, second):
+        return [E(1, 1, *first), E(2, 1, *second)]
+
+    # every engine fails: one percent is 1, and 0
+    assert [verdict_of(volume, two((801, 5000), (801, 5000)), k) for volume in (51, 50) for k in (K, 8 * K)] == [1, 1, 4, 4]
+    # equal to both standards; HC+NOx alone above, CO alone
+    assert [verdict_of(150, two(x, x)) for x in ((800, 6100), (801, 6100), (800, 6101))] == [4, 1, 1]
+    # one of two passes: enough where one percent is 1, not where it is 2
+    assert [verdict_of(volume, two(*x)) for volume in (149, 150) for x in (((801, 5000), (800, 5000)), ((800, 5000), (801, 5000)))] == [4, 4, 1, 1]
+    # the standards in force when an engine was entered
+    assert verdict_of(150, two((800, 6100), (800, 6100)) + [A(10, 10)]) == 4 and verdict_of(150, two((801, 6100), (801, 6100)) + [A(20000, 20000)]) == 1
+    assert verdict_of(150, [E(1, 1, 800, 6100), A(810, 6100), E(2, 1, 801, 6100)]) == 4 and verdict_of(150, [E(1, 1, 800, 6100), A(790, 6100), E(2, 1, 800, 6100)]) == 1
+    # a struck engine is not counted
+    three = two((801, 5000), (800, 5000)) + [E(3, 1, 800, 5000)]
+    assert verdict_of(150, three) == 4 and verdict_of(150, three + [Z]) == 1
+    # thirty that fail; twenty-nine; one percent of 2,900 is 29
+    thirty = [E(j, 1, 20000 if j == 1 else 801, 5000) for j in range(1, 31)]
+    assert verdict_of(3000, thirty) == 3 and verdict_of(2900, thirty) == 3 and verdict_of(2900, thirty[:29]) == 1
 
 
 def changed(book, *changes):

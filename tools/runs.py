@@ -1,5 +1,5 @@
 #!/usr/bin/env python3
-"""Input and expected output of the calculator's tested runs, from document 01 and W-201 and W-202 of document 02 alone (tools/model.py, and the table of
+"""Input and expected output of the calculator's tested runs, from document 01 and W-201, W-202 and W-204 of document 02 alone (tools/model.py, and the table of
 refusals in tools/call_lists.py).
 
 Run from the repository's root, it writes crates/NAME/stdin and crates/NAME/stdout of each run, and examples/YEAR.replies.txt of each worked year; it shares
@@ -24,7 +24,8 @@ from model import ORDER, SIZE, Year, encode, first_refusal, self_check
 LONGEST = 64
 FORM = re.compile(rb'[SETAPXZL]( (0|[1-9][0-9]{0,7}))*')
 # The worked years of run_years in their order, which tests/years.sh compares.
-YEARS = ['undecided_mark', 'sample_size', 'amendment', 'failed', 'declared', 'first_engine', 'previous_limit', 'equal_limit', 'rounding', 'struck_engine', 'asked_engine']
+YEARS = ['undecided_mark', 'sample_size', 'amendment', 'failed', 'declared', 'first_engine', 'previous_limit', 'equal_limit', 'rounding', 'struck_engine', 'asked_engine',
+         'failing_engines']
 COUNTS = {'S': 8, 'A': 2, 'P': 0, 'X': 0, 'Z': 0, 'L': 0}
 
 # --------------------------------------------------------------- the replies

@@ -1,5 +1,5 @@
 #!/usr/bin/env python3
-"""Input and expected output of the test program worked_years, from document 01 and W-201 of document 02 alone (tools/model.py).
+"""Input and expected output of the test program worked_years, from document 01 and W-201 and W-204 of document 02 alone (tools/model.py).
 
 Run from the repository's root, it writes crates/worked_years/stdin and crates/worked_years/stdout; it shares nothing with the calculator.
 A line of the input is a letter, then a space and its words or numbers, with single spaces between them:
@@ -200,7 +200,7 @@ def struck_years(sheet):
 
 def full_struck_years(sheet):
     """Forty engines of the largest results, the last struck, a forty-first in its place, another that does not fit, and strikes until no slot is left. Thirty
-    engines (verdict 3), and the strike of the thirtieth; twenty where one percent is twenty (verdict 4). One engine and sixty-two amendments: a strike in the
+    engines (verdict 3), and the strike of the thirtieth; twenty that pass where one percent is twenty (verdict 4). One engine and sixty-two amendments: a strike in the
     last slot, and one more; the same with all slots taken. Thirty-two engines, each struck at once, and one more."""
     turns = [E(i + 1, 3, 20000 * (i % 2), 20000 - 20000 * (i % 2)) for i in range(41)]
     sheet.title('struck, forty')
@@ -209,12 +209,33 @@ def full_struck_years(sheet):
     sheet.title('struck, thirty')
     sheet.year((99999999, 1000, 6100), steady + [SHOW, Z, SHOW, steady[29]], 2 * K, each=False)
     sheet.title('struck, one percent')
-    sheet.year((2000, 1000, 6100), steady[:20] + [SHOW, Z, SHOW, steady[20]], 2 * K, each=False)
+    passing = [E(i + 1, 1, 900 + 100 * (i % 2), 6100) for i in range(21)]
+    sheet.year((2000, 1000, 6100), passing[:20] + [SHOW, Z, SHOW, passing[20]], 2 * K, each=False)
     sheet.title('struck, many events')
     sheet.year((5000, 800, 6100), engines(998) + [A(10, 20000)] * 62 + [Z, SHOW, Z, D], K, each=False)
     sheet.year((5000, 800, 6100), engines(998) + [A(10, 20000)] * 63 + [Z], K, each=False)
     sheet.title('year of strikes')
     sheet.year((5000, 800, 6100), [E(7, 1, 998, 5000), Z] * 31 + [SHOW, E(7, 1, 998, 5000), SHOW, Z, SHOW, E(7, 1, 998, 5000), Z], K, each=False)
+
+
+def failing_years(sheet):
+    """W-204. Engines that all fail: one percent of 51 is 1 (verdict 1), of 50 it is 0 (4). P 150: both results equal to the standards, HC+NOx above, CO above.
+    One of two passes: P 149 (4) and 150 (1). The standards in force at entry: amendments after two engines and between them, and a strike. Thirty engines that
+    all fail (3), the thirtieth struck (1); and by turns above and below, ten of twenty, where one percent is twenty (1) and ten (4)."""
+    sheet.title('failing')
+    for volume in (51, 50):
+        sheet.year((volume, 1000, 6100), engines(1001, 1001), 8 * K)
+    for hcnox, co in ((800, 6100), (801, 6100), (800, 6101)):
+        sheet.year((150, 800, 6100), [E(1, 1, hcnox, co), E(2, 1, hcnox, co)], 8 * K, each=False)
+    for volume in (149, 150):
+        sheet.year((volume, 800, 6100), engines(801, 800), 2 * K, each=False)
+    sheet.title('failing, amended')
+    sheet.year((150, 800, 6100), [E(1, 1, 800, 6100), E(2, 1, 800, 6100), A(10, 10), Z, E(2, 1, 800, 6100), Z, A(800, 6100), E(2, 1, 800, 6100)], K)
+    sheet.year((150, 800, 6100), [E(1, 1, 801, 6100), E(2, 1, 801, 6100), A(20000, 20000), Z, E(2, 1, 801, 6100), E(3, 1, 801, 6100)], K)
+    sheet.title('failing, thirty')
+    sheet.year((2900, 800, 6100), engines(20000, *[801] * 29) + [SHOW, Z], 8 * K, each=False)
+    for volume in (2000, 1000):
+        sheet.year((volume, 1000, 6100), [E(i + 1, 1, 900 + 200 * (i % 2), 6000 + 200 * (i % 2)) for i in range(20)], 2 * K, each=False)
 
 
 def main():
@@ -226,6 +247,7 @@ def main():
     largest_years(sheet)
     struck_years(sheet)
     full_struck_years(sheet)
+    failing_years(sheet)
     assert set(sheet.strikes) == {0, 8, 9, 17} and len(sheet.input) <= 2000       # so many lines the test program reads
     for name, text in (('stdin', ''.join(line + '\n' for line in sheet.input)), ('stdout', sheet.output)):
         with open('crates/worked_years/%s' % name, 'w') as f:

@@ -1,16 +1,16 @@
--- The engines in order of entry, seen with the newest first: a look-up, one more engine, one less, and the engines before an index.
+-- The engines in order of entry, seen with the newest first: a look-up, a count, one more engine, one less, and the engines before an index.
 use mathlib.Core.Path.{◌≡◌, refl, sym, ap, subst, ◌∙◌}
-use mathlib.Core.Bool.{Bool, ◌||◌}
+use mathlib.Core.Bool.{Bool, cond, ◌||◌}
 use mathlib.Core.List.{List, [], ◌∷◌, ◌++◌}
 use Prim.Native.Nat.{ℕ, ◌+◌, ◌-◌, ◌≤◌}
 use native.Mathlib.Omega.{arith}
 use lib.Dec.{eqb}
 use lib.ListN.{length, take, drop}
-use Rattle.std.specs.Prelude.{reverse}
+use Rattle.std.specs.Prelude.{reverse, count_by}
 use Rattle.std.specs.List.{list_any}
 use Rattle.std.proofs.lemmas.List.{reverse-append, reverse-reverse, length-append, take-append-drop}
 use Rattle.std.proofs.Math.Seq.{take-append_seam}
-use Rattle.std.proofs.lemmas.List.Sorted.{IsPermutation-reverse, list_any-IsPermutation}
+use Rattle.std.proofs.lemmas.List.Sorted.{IsPermutation-reverse, list_any-IsPermutation, sum_by-IsPermutation}
 use Rattle.year.specs.declared.Tested.{Tested}
 use Rattle.year.specs.declared.Pair.{Pair}
 use Rattle.year.specs.Setup.{Pollutant, Hcnox, Co, of}
@@ -28,6 +28,10 @@ tested_by number (x ∷ xs) = ap (λ (b : Bool). eqb x.number number || b) (test
 -- a look-up in order of entry finds what one from the newest on finds
 pub tested_any : (number : ℕ) (xs : List Tested) → list_any (λ x. eqb x.number number) xs ≡ is_tested number (reverse xs)
 tested_any number xs = list_any-IsPermutation (λ x. eqb x.number number) xs (reverse xs) (IsPermutation-reverse xs) ∙ tested_by number (reverse xs)
+
+-- as many pass a test
+pub counted_any : (test : Tested → Bool) (xs : List Tested) → count_by test xs ≡ count_by test (reverse xs)
+counted_any test xs = sym (sum_by-IsPermutation (λ x. cond (test x) 1 0) xs (reverse xs) (IsPermutation-reverse xs))
 
 pub newest_first : (xs : List Tested) (x : Tested) → reverse (xs ++ x ∷ []) ≡ x ∷ reverse xs
 newest_first xs x = reverse-append xs (x ∷ [])

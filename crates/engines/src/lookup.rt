@@ -1,7 +1,8 @@
-// Look-up of an engine number among the tested engines, and of the newest engine's period.
-ghost use Rattle.std.specs.Prelude.{◌≡◌, eqb};
+// Look-up of an engine number among the tested engines, and of the newest engine's period; and how many engines pass.
+ghost use Rattle.std.specs.Prelude.{◌≡◌, eqb, count_by};
 ghost use Rattle.std.specs.List.{list_any};
 ghost use Rattle.year.specs.Replay.{is_tested, newest_in};
+ghost use Rattle.year.specs.Verdict.{passes};
 ghost use Rattle.engines.specs.Engines.{tested};
 
 use crate::Engines;
@@ -29,4 +30,19 @@ pub fn newest_in(e: &Engines, period: u32) -> bool
         [.., newest] => u32::from(newest.period) == period,
         [] => false,
     }
+}
+
+// How many of these engines pass.
+fn passing_among(engines: &[Tested]) -> usize
+    ensures { result ≡ count_by passes engines.now }
+{
+    engines.iter().filter(|x| x.passes()).count()
+}
+
+// How many engines pass: those that verdict 4 counts.
+#[tactic(auto, using(crate::proofs::Newest::counted_any))]
+pub fn passing(e: &Engines) -> usize
+    ensures { result ≡ count_by passes (tested e.now) }
+{
+    passing_among(e.as_slice())
 }

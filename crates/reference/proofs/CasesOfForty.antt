@@ -8,7 +8,7 @@ use Rattle.year.specs.Replay.{Progress, replay}
 use Rattle.year.specs.Verdict.{verdict}
 use Rattle.year.specs.Admissible.{closed}
 use Rattle.year.specs.Cases.{setup_of, engines_to}
-use Rattle.year.proofs.CasesOfVerdict.{at-standard}
+use Rattle.year.proofs.CasesOfVerdict.{never-rising}
 use Rattle.reference.specs.Refusals.{refusals, refusal}
 use Rattle.reference.specs.CasesOfForty.{CasesOfForty}
 
@@ -21,6 +21,6 @@ pub cases-of-forty : CasesOfForty
 unfolding refusals refusal nearest_even size_reached needs
 cases-of-forty =
     record {
-      engine_of_41 = rw (open-at-3 (replay (setup_of 5000 800) (engines_to 40)) (at-standard (replay (setup_of 5000 800) (engines_to 40)) refl refl refl));
-      engine_of_40 = rw (open-at-3 (replay (setup_of 5000 800) (engines_to 39)) (at-standard (replay (setup_of 5000 800) (engines_to 39)) refl refl refl));
+      engine_of_41 = rw (open-at-3 (replay (setup_of 5000 800) (engines_to 40)) (never-rising (replay (setup_of 5000 800) (engines_to 40)) refl refl refl));
+      engine_of_40 = rw (open-at-3 (replay (setup_of 5000 800) (engines_to 39)) (never-rising (replay (setup_of 5000 800) (engines_to 39)) refl refl refl));
     }

@@ -13,7 +13,7 @@ use Rattle.year.specs.Replay.{Progress, replay}
 use Rattle.year.specs.Verdict.{verdict}
 use Rattle.year.specs.Admissible.{closed, admissible}
 use Rattle.year.specs.Cases.{setup_of, engines_to}
-use Rattle.year.proofs.CasesOfVerdict.{at-standard}
+use Rattle.year.proofs.CasesOfVerdict.{never-rising}
 use Rattle.journal.specs.Encode.{can_hold, append}
 use Rattle.journal.specs.Read.{read_as}
 use Rattle.reference.specs.Refusals.{refusals, refusal}
@@ -29,11 +29,11 @@ year n = replay (setup_of 5000 800) (engines_to n)
 
 engine-of-40 : refusal 544 (previewing 40 (1 ∷ []) (1 ∷ [])) (year_of (engines_to 39)) ≡ 0
 unfolding refusals refusal nearest_even size_reached needs
-engine-of-40 = rw (open-at-3 (year 39) (at-standard (year 39) refl refl refl))
+engine-of-40 = rw (open-at-3 (year 39) (never-rising (year 39) refl refl refl))
 
 engine-of-41 : refusal 544 (previewing 41 (1 ∷ []) (1 ∷ [])) (year_of (engines_to 40)) ≡ 14
 unfolding refusals refusal nearest_even size_reached needs
-engine-of-41 = rw (open-at-3 (year 40) (at-standard (year 40) refl refl refl))
+engine-of-41 = rw (open-at-3 (year 40) (never-rising (year 40) refl refl refl))
 
 pub cases-of-preview : CasesOfPreview
 unfolding nearest_even variation t95 sample_size size_reached compared failed undecided put periods needs verdict closed admissible can_hold append read_as refusals refusal journal_after answer step_model

@@ -13,5 +13,6 @@ pub mod Promises
 pub mod Demand2
 pub mod Deletion
 pub mod Preview
+pub mod FailingEngines
 pub mod Demand3
 pub mod Refused

@@ -12,4 +12,5 @@ pub mod Cases
 pub mod CasesOfForty
 pub mod CasesOfDeletion
 pub mod Preview
+pub mod FailingEngines
 pub mod CasesOfPreview

@@ -8,6 +8,7 @@ ghost use Rattle.verdicts.specs.Numbers.{number_of, numbered};
 ghost use Rattle.progress.specs.State.{Figured, Judged};
 
 use crate::kinds::Verdict;
+use engines::lookup::passing;
 use engines::summary::reached;
 use figures::Running;
 use progress::Progress;
@@ -35,7 +36,8 @@ pub fn verdict_by(p: &Progress, figures: Pair<Running>) -> Verdict
     requires { Judged p.now figures }
     ensures { (k : ℕ) → Figured k p.now.tested figures → number_of result ≡ verdict k p.now }
 {
-    let n = p.engines.len() as u64;
+    let n = p.engines.len();
+    let passing = passing(&p.engines) as u64;
     first_verdict(&[
         (p.declared, Verdict::Declared),
         (figures.either(|f| f.failed), Verdict::Failed),
@@ -43,7 +45,7 @@ pub fn verdict_by(p: &Progress, figures: Pair<Running>) -> Verdict
         (is_short(p.current, p.period), Verdict::Short),
         (figures.both(reached), Verdict::SizeReached),
         (30 <= n, Verdict::ThirtyTested),
-        (one_percent(p.setup.volume) <= n, Verdict::PercentTested),
+        (one_percent(p.setup.volume) <= passing, Verdict::PercentTested),
     ])
 }
 

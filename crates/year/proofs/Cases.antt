@@ -59,6 +59,8 @@ starred-cases =
       size_of_1000 = refl;
       mark_of_1000 = simp deviation-none;
       verdict_of_1000 = simp deviation-none;
+      failing_of_51 = simp deviation-none;
+      failing_of_50 = simp deviation-none;
     }
 
 pub cases : Cases

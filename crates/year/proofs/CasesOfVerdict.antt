@@ -13,7 +13,7 @@ use Rattle.statistics.proofs.Deviations.{deviation-unique, deviation-none}
 use Rattle.statistics.proofs.Cases as statistics
 use Rattle.cumsum.specs.Marks.{compared, failed, undecided}
 use Rattle.cumsum.proofs.Cases.{of-216-329, of-216-329-232}
-use Rattle.cumsum.proofs.NeverOver.{at_standard, never-failed, never-undecided}
+use Rattle.cumsum.proofs.NeverOver.{never_rises, never-failed, never-undecided}
 use Rattle.year.specs.Setup.{Hcnox, Co}
 use Rattle.year.specs.Periods.{periods, needs}
 use Rattle.year.specs.Replay.{Progress, replay, history}
@@ -28,11 +28,11 @@ of-500-500-0 = deviation-unique 1024 3 500000 (lit≤ tt) 295603 (lit≤ tt) (li
 of-998-1071-900 : deviation 1024 3 44174 ≡ exactly 87863 1
 of-998-1071-900 = deviation-unique 1024 3 44174 (lit≤ tt) 87863 (lit≤ tt) (lit< tt)
 
--- a year in which no result is above its standard: the verdict comes from the rows after 7, 6 and 5
-pub at-standard : (p : Progress) → p.declared ≡ false → at_standard (history Hcnox p.tested) ≡ true → at_standard (history Co p.tested) ≡ true
+-- a year in which C never rises, for one as no result is above its standard: the verdict comes from the rows after 7, 6 and 5
+pub never-rising : (p : Progress) → p.declared ≡ false → never_rises (history Hcnox p.tested) ≡ true → never_rises (history Co p.tested) ≡ true
     → verdict 1024 p ≡ first (drop 3 (verdict_rows 1024 p)) 1
 unfolding verdict
-at-standard p undeclared hcnox co =
+never-rising p undeclared hcnox co =
     simp (undeclared, never-failed 1024 (history Hcnox p.tested) hcnox, never-failed 1024 (history Co p.tested) co, never-undecided 1024 (history Hcnox p.tested) hcnox, never-undecided 1024 (history Co p.tested) co)
 
 pub cases-of-verdict : CasesOfVerdict
@@ -52,13 +52,13 @@ cases-of-verdict =
       reached_short = simp deviation-none;
       reached_again = simp deviation-none;
       co_without_size = simp deviation-none;
-      reached_at_thirty = at-standard (replay (setup_of 3000 1000) (engines_to 30)) refl refl refl ∙ refl;
-      thirty = at-standard (replay (setup_of 3000 800) (engines_to 30)) refl refl refl ∙ refl;
-      twenty_nine = at-standard (replay (setup_of 3000 800) (engines_to 29)) refl refl refl ∙ refl;
-      thirty_one = at-standard (replay (setup_of 5000 800) (engines_to 31)) refl refl refl ∙ refl;
-      twenty_nine_of_2900 = at-standard (replay (setup_of 2900 800) (engines_to 29)) refl refl refl ∙ refl;
-      thirty_in_two_periods = at-standard (replay (setup_of 5000 800) (engine 30 800 ∷ NextPeriod ∷ engines_to 29)) refl refl refl ∙ refl;
-      sixteen_in_two_periods = at-standard (replay (setup_of 1600 800) (engine 16 800 ∷ NextPeriod ∷ engines_to 15)) refl refl refl ∙ refl;
+      reached_at_thirty = never-rising (replay (setup_of 3000 1000) (engines_to 30)) refl refl refl ∙ refl;
+      thirty = never-rising (replay (setup_of 3000 800) (engines_to 30)) refl refl refl ∙ refl;
+      twenty_nine = never-rising (replay (setup_of 3000 800) (engines_to 29)) refl refl refl ∙ refl;
+      thirty_one = never-rising (replay (setup_of 5000 800) (engines_to 31)) refl refl refl ∙ refl;
+      twenty_nine_of_2900 = never-rising (replay (setup_of 2900 800) (engines_to 29)) refl refl refl ∙ refl;
+      thirty_in_two_periods = never-rising (replay (setup_of 5000 800) (engine 30 800 ∷ NextPeriod ∷ engines_to 29)) refl refl refl ∙ refl;
+      sixteen_in_two_periods = never-rising (replay (setup_of 1600 800) (engine 16 800 ∷ NextPeriod ∷ engines_to 15)) refl refl refl ∙ refl;
       two_of_250 = simp deviation-none;
       two_of_251 = simp deviation-none;
       one_percent_of_50 = refl;

@@ -1,11 +1,13 @@
 pub mod Cases
 pub mod CasesOfRanges
 pub mod CasesOfVerdict
+pub mod CasesOfFailing
 pub mod CasesOfDeletion
 pub mod Replayed
 pub mod Finer
 pub mod Valid
 pub mod Kept
+pub mod FailingEngines
 pub mod Ranges
 pub mod Closed
 pub mod Setups

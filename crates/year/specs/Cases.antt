@@ -56,9 +56,12 @@ two = replay (setup_of 5000 800) (engine 2 1071 ∷ engine 1 998 ∷ [])
 abbrev pub three : List Event
 three = engine 3 500 ∷ engine 2 500 ∷ engine 1 500 ∷ []
 
--- T 1,000, the same X twice, P 1,500
+-- T 1,000, the same X twice, with this P, and with P 1,500
+abbrev pub two_of : ℕ → ℕ → Progress
+two_of volume result = replay (setup_of volume 1000) (engine 2 result ∷ engine 1 result ∷ [])
+
 abbrev pub twice : ℕ → Progress
-twice result = replay (setup_of 1500 1000) (engine 2 result ∷ engine 1 result ∷ [])
+twice = two_of 1500
 
 pub record Cases : Type 0 where
   -- One percent of 250 is 2, of 350 is 4

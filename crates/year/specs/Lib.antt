@@ -9,8 +9,10 @@ pub mod Ranges
 pub mod Model
 pub mod Work
 pub mod FinerWork
+pub mod FailingEngines
 pub mod Cases
 pub mod StarredCases
 pub mod CasesOfRanges
 pub mod CasesOfVerdict
+pub mod CasesOfFailing
 pub mod CasesOfDeletion

@@ -1,4 +1,4 @@
--- All the starred cases of document 01, "Cases on the edges", in its order, as one statement about the definitions.
+-- All the starred cases of document 01, "Cases on the edges", in its order, as one statement about the definitions; beside them the two of document 02, W-204.
 -- Events are listed with the newest first.
 use Rattle.std.specs.Prelude.{◌≡◌, [], ◌∷◌, reverse, ◌*◌, Some, None}
 use Rattle.rounding.specs.Result.{rounded, mean, factored}
@@ -12,7 +12,7 @@ use Rattle.year.specs.Periods.{periods}
 use Rattle.year.specs.Replay.{replay, history}
 use Rattle.year.specs.Verdict.{verdict}
 use Rattle.year.specs.Status.{status}
-use Rattle.year.specs.Cases.{setup_of, two, three, twice}
+use Rattle.year.specs.Cases.{setup_of, two, three, two_of, twice}
 
 pub record StarredCases : Type 0 where
   -- * 1,000,500 rounds to 1,000; * 1,001,500 to 1,002; * mean of 800 and 801 is 800; * 50 under factor 1,050 of kind 1 is 52
@@ -43,3 +43,6 @@ pub record StarredCases : Type 0 where
   pub size_of_1000 : (status 1024 (twice 1000)).figures.hcnox.size ≡ None
   pub mark_of_1000 : (status 1024 (twice 1000)).figures.hcnox.mark ≡ Under
   pub verdict_of_1000 : verdict 1024 (twice 1000) ≡ 1
+  -- W-204, "a case for each goes beside the starred ones": every engine fails (T 1,000, X 1,001 twice). One percent of 51 is 1, and of 50 it is 0
+  pub failing_of_51 : verdict 1024 (two_of 51 1001) ≡ 1
+  pub failing_of_50 : verdict 1024 (two_of 50 1001) ≡ 4

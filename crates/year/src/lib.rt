@@ -3,6 +3,7 @@
 
 ghost use Rattle.std.specs.Prelude.{◌≡◌, Bool, ◌&&◌, ◌||◌};
 ghost use Rattle.year.specs.Setup.{setup_of};
+ghost use Rattle.year.specs.Verdict.{passes};
 
 use cumsum::{Interval, Mark};
 use rounding::Factor;
@@ -136,6 +137,13 @@ impl Tested {
         ensures co { result.co ≡ record { result = self.results.co; standard = self.standards.co } }
     {
         tests_under(self.results.map(u32::from), self.standards.map(u32::from))
+    }
+
+    // Whether both results are at or below the standards that were in force when it was entered.
+    pub fn passes(&self) -> bool
+        ensures { result ≡ passes self.now }
+    {
+        self.results.zip(self.standards).both(|(x, t)| x <= t)
     }
 }
 

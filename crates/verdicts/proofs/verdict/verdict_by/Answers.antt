@@ -33,6 +33,7 @@ returns c =
       undecided-is p k m Co c.args.figures.co f.co,
       failed-is p k m Hcnox c.args.figures.hcnox f.hcnox,
       failed-is p k m Co c.args.figures.co f.co,
+      c.passing-passing.ensures,
       c.len-n.ensures.value,
       counted p k,
     )
