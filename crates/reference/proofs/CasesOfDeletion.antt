@@ -28,7 +28,7 @@ abbrev struck : Progress
 struck = replay (setup_of 5000 800) (Deletion ∷ engines_to 40)
 
 engine-of-41 : refusal 544 (entering 41 (1 ∷ []) (1 ∷ [])) (year_of (Deletion ∷ engines_to 40)) ≡ 0
-unfolding refusals refusal nearest_even size_reached needs
+unfolding refusals refusal nearest_even variation size_reached needs
 engine-of-41 = rw (open-at-3 struck (never-rising struck refl refl refl))
 
 pub cases-of-deletion : CasesOfDeletion

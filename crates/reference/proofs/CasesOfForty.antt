@@ -2,6 +2,7 @@
 use mathlib.Core.Path.{◌≡◌, refl}
 use mathlib.Core.Bool.{false}
 use Rattle.rounding.specs.Result.{nearest_even}
+use Rattle.statistics.specs.Spread.{variation}
 use Rattle.statistics.specs.SampleSize.{size_reached}
 use Rattle.year.specs.Periods.{needs}
 use Rattle.year.specs.Replay.{Progress, replay}
@@ -18,7 +19,7 @@ unfolding closed
 open-at-3 p three = rw three
 
 pub cases-of-forty : CasesOfForty
-unfolding refusals refusal nearest_even size_reached needs
+unfolding refusals refusal nearest_even variation size_reached needs
 cases-of-forty =
     record {
       engine_of_41 = rw (open-at-3 (replay (setup_of 5000 800) (engines_to 40)) (never-rising (replay (setup_of 5000 800) (engines_to 40)) refl refl refl));

@@ -28,11 +28,11 @@ abbrev year : ℕ → Progress
 year n = replay (setup_of 5000 800) (engines_to n)
 
 engine-of-40 : refusal 544 (previewing 40 (1 ∷ []) (1 ∷ [])) (year_of (engines_to 39)) ≡ 0
-unfolding refusals refusal nearest_even size_reached needs
+unfolding refusals refusal nearest_even variation size_reached needs
 engine-of-40 = rw (open-at-3 (year 39) (never-rising (year 39) refl refl refl))
 
 engine-of-41 : refusal 544 (previewing 41 (1 ∷ []) (1 ∷ [])) (year_of (engines_to 40)) ≡ 14
-unfolding refusals refusal nearest_even size_reached needs
+unfolding refusals refusal nearest_even variation size_reached needs
 engine-of-41 = rw (open-at-3 (year 40) (never-rising (year 40) refl refl refl))
 
 pub cases-of-preview : CasesOfPreview

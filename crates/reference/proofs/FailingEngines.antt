@@ -1,18 +1,12 @@
 -- Which engines verdict 4 counts, in what the calls answer.
 use mathlib.Core.Path.{◌≡◌, sym, subst, ◌∙◌}
-use mathlib.Core.List.{List}
-use Prim.Native.Nat.{ℕ, ◌≤◌}
+use Prim.Native.Nat.{◌≤◌}
 use Rattle.std.specs.Prelude.{count_by}
 use Rattle.year.specs.declared.Setup.{Setup}
-use Rattle.year.specs.declared.Event.{Event}
 use Rattle.year.specs.Replay.{replay}
-use Rattle.year.specs.Verdict.{one_percent, passes, verdict}
-use Rattle.year.specs.Model.{Year}
+use Rattle.year.specs.Verdict.{one_percent, passes}
 use Rattle.year.proofs.Replayed.{replay-setup}
 use Rattle.year.proofs.FailingEngines.{failing-engines}
-use Rattle.journal.specs.Read.{read_journal}
-use Rattle.reference.specs.Call.{Call, previewed}
-use Rattle.reference.specs.Answers.{refusal_on, journal_after, answer, outcome_of}
 use Rattle.reference.specs.FailingEngines.{FailingShown}
 use Rattle.reference.proofs.Demand2.{demand-2}
 

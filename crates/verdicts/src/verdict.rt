@@ -45,7 +45,10 @@ pub fn verdict_by(p: &Progress, figures: Pair<Running>) -> Verdict
         (is_short(p.current, p.period), Verdict::Short),
         (figures.both(reached), Verdict::SizeReached),
         (30 <= n, Verdict::ThirtyTested),
-        (one_percent(p.setup.volume) <= passing, Verdict::PercentTested),
+        (
+            one_percent(p.setup.volume) <= passing,
+            Verdict::PercentTested,
+        ),
     ])
 }
 
