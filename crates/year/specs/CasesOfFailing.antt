@@ -13,6 +13,10 @@ use Rattle.year.specs.Cases.{pair, setup_of, engine}
 abbrev pub tested_with : Pair ℕ → Tested
 tested_with results = record { number = 1; results = results; standards = pair 800 6100; period = 1 }
 
+-- an engine with this HC+NOx result, and with CO at its standard
+abbrev pub co_met : ℕ → ℕ → Event
+co_met number result = Engine number 1 (pair result 6100)
+
 -- two engines with these results
 abbrev pub two_with : Pair ℕ → List Event
 two_with results = Engine 2 1 results ∷ Engine 1 1 results ∷ []
@@ -42,8 +46,8 @@ pub record CasesOfFailing : Type 0 where
   -- "the standards in force when entered": an amendment after two engines neither fails them nor makes them pass; one between them is in force for the second
   pub amended_down : verdict 1024 (replay (setup_of 150 800) (Amendment (pair 10 10) ∷ two_with (pair 800 6100))) ≡ 4
   pub amended_up : verdict 1024 (replay (setup_of 150 800) (Amendment (pair 20000 20000) ∷ two_with (pair 801 6100))) ≡ 1
-  pub raised_between : verdict 1024 (replay (setup_of 150 800) (Engine 2 1 (pair 801 6100) ∷ Amendment (pair 810 6100) ∷ Engine 1 1 (pair 800 6100) ∷ [])) ≡ 4
-  pub lowered_between : verdict 1024 (replay (setup_of 150 800) (Engine 2 1 (pair 800 6100) ∷ Amendment (pair 790 6100) ∷ Engine 1 1 (pair 800 6100) ∷ [])) ≡ 1
+  pub raised_between : verdict 1024 (replay (setup_of 150 800) (co_met 2 801 ∷ Amendment (pair 810 6100) ∷ co_met 1 800 ∷ [])) ≡ 4
+  pub lowered_between : verdict 1024 (replay (setup_of 150 800) (co_met 2 800 ∷ Amendment (pair 790 6100) ∷ co_met 1 800 ∷ [])) ≡ 1
   -- a struck engine is not counted: engines 2 and 3 pass, and then engine 2 alone remains of the two
   pub before_strike : verdict 1024 (replay (setup_of 150 800) (engine 3 800 ∷ engine 2 800 ∷ engine 1 801 ∷ [])) ≡ 4
   pub struck : verdict 1024 (replay (setup_of 150 800) (Deletion ∷ engine 3 800 ∷ engine 2 800 ∷ engine 1 801 ∷ [])) ≡ 1
