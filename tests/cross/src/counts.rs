@@ -2,6 +2,7 @@
 
 use crate::kinds::KINDS;
 use crate::model::Status;
+use crate::tally::{MET, SLIPS, Tally};
 
 /// A sort of call.
 #[derive(Clone, Copy, PartialEq, Eq, Debug)]
@@ -45,13 +46,15 @@ pub enum Compared {
     YearOfDeletions,
     Ask,
     YearOfAsks,
+    OnePercent,
 }
 
-const COMPARED: [&str; 4] = [
+const COMPARED: [&str; 5] = [
     "deletions compared with the status before the engine",
     "years compared with the same without deleted engines",
     "asks compared with the entry of the same engine",
     "years compared with the same without asks",
+    "verdicts 1, 3 and 4 compared with a count of the engines",
 ];
 
 const VERSIONS: usize = 2;
@@ -89,6 +92,10 @@ pub struct Counts {
     /// What was compared without the model, in the order of `Compared`.
     compared: [u64; COMPARED.len()],
     verdicts: [u64; VERDICTS],
+    /// Verdicts in years with failing engines, in the order of `MET`, and those
+    /// that a slip would change, in the order of `SLIPS`: verdicts 1 and 4.
+    met: [u64; MET.len()],
+    slips: [[u64; 2]; SLIPS.len()],
     /// By pollutant: the newest marks reported, and the marks written.
     newest: [[u64; MARKS.len()]; 2],
     written: [[u64; MARKS.len()]; 2],
@@ -116,6 +123,8 @@ impl Counts {
         add_row(&mut self.versions, &case.versions);
         add_row(&mut self.compared, &case.compared);
         add_row(&mut self.verdicts, &case.verdicts);
+        add_row(&mut self.met, &case.met);
+        add_each(&mut self.slips, &case.slips);
         add_each(&mut self.newest, &case.newest);
         add_each(&mut self.written, &case.written);
     }
@@ -139,6 +148,13 @@ impl Counts {
     /// A comparison without the model.
     pub fn compared(&mut self, what: Compared) {
         self.compared[what as usize] += 1;
+    }
+
+    /// A verdict on a year with these engines.
+    pub fn tally(&mut self, verdict: u8, tally: &Tally) {
+        add_row(&mut self.met, &tally.meets(verdict).map(u64::from));
+        let changes = tally.changes(verdict).map(|row| row.map(u64::from));
+        add_each(&mut self.slips, &changes);
     }
 
     pub fn status(&mut self, status: &Status) {
@@ -211,6 +227,25 @@ impl Counts {
                 }
             }
         }
+        missing.extend(self.missing_of_failing());
+        missing
+    }
+
+    /// What was never met of years with failing engines.
+    fn missing_of_failing(&self) -> Vec<String> {
+        let mut missing = Vec::new();
+        for (name, count) in MET.iter().zip(&self.met) {
+            if *count == 0 {
+                missing.push(name.to_string());
+            }
+        }
+        for ((name, possible), row) in SLIPS.iter().zip(&self.slips) {
+            for (place, verdict) in [1, 4].into_iter().enumerate() {
+                if possible[place] && row[place] == 0 {
+                    missing.push(format!("verdict {verdict}, another if one counted {name}"));
+                }
+            }
+        }
         missing
     }
 
@@ -242,10 +277,22 @@ impl Counts {
         for (verdict, count) in self.verdicts.iter().enumerate() {
             println!("{verdict:>7} {count:>11}");
         }
+        self.print_failing();
         println!("\nmarks                    '-'        'U'        '?'        'O'");
         for (name, row) in self.mark_rows() {
             let cells = row.map(|count| format!("{count:>11}")).concat();
             println!("{name:<17}{cells}");
+        }
+    }
+
+    fn print_failing(&self) {
+        println!();
+        for (name, count) in MET.iter().zip(&self.met) {
+            println!("{name}: {count}");
+        }
+        println!("\nverdicts that change if one counts                 1          4");
+        for ((name, _), [ones, fours]) in SLIPS.iter().zip(&self.slips) {
+            println!("{name:<42}{ones:>10} {fours:>10}");
         }
     }
 

@@ -17,6 +17,7 @@ pub mod random;
 pub mod readings;
 pub mod results;
 pub mod setups;
+pub mod tally;
 pub mod twin;
 pub mod words;
 pub mod written;

@@ -76,6 +76,20 @@ impl Outcome {
             lent: Lent::Words(lent),
         }
     }
+
+    /// The verdict in figures, or in the reply to a line that is no L, if the call
+    /// was accepted.
+    pub fn verdict(&self) -> Option<u8> {
+        let reply = match &self.lent {
+            Lent::Words(words) => return (self.returned == 0).then(|| words.part()[1] as u8),
+            Lent::Bytes(bytes) => bytes.part().get(..self.written)?,
+        };
+        let mut fields = reply.split(|byte| *byte == b' ');
+        match (fields.next()?, fields.nth(1)?) {
+            (b"OK", [digit]) => Some(digit - b'0'),
+            _ => None,
+        }
+    }
 }
 
 impl fmt::Display for Outcome {

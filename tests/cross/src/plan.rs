@@ -3,7 +3,7 @@
 use crate::aim::{Aim, aim};
 use crate::journal::Setup;
 use crate::random::Random;
-use crate::results::Pattern;
+use crate::results::{Fails, Pattern};
 use crate::setups;
 use crate::year::Year;
 
@@ -22,6 +22,8 @@ pub struct Plan {
     patterns: [Pattern; 2],
     /// Pollutants whose marks are aimed at.
     hunted: [bool; 2],
+    /// One in this many moves is an amendment.
+    amendments: usize,
     /// Whether an amendment may set any standard.
     free: bool,
     /// Results to enter after an amendment made for them.
@@ -38,6 +40,7 @@ impl Plan {
         Plan {
             patterns: setup.standards.map(|t| Pattern::passing(random, t)),
             hunted: [false; 2],
+            amendments: 12,
             free: false,
             pending: None,
             deletions: random.pick(&[None, None, None, Some(4), Some(12), Some(30)]),
@@ -60,6 +63,32 @@ impl Plan {
         plan
     }
 
+    /// A year that can grow long although engines fail: one standard or both,
+    /// some engines, nearly all or all of them.
+    pub fn failing(random: &mut Random, setup: &Setup) -> Self {
+        let others = [Fails::Never, Fails::Always, Fails::OneIn(2)];
+        let other = random.pick(&others);
+        let place = random.below(40);
+        let mut fails = random.pick(&[
+            [Fails::Always, other],
+            [Fails::Even, Fails::Odd],
+            [Fails::AllBut(place), Fails::AllBut(place)],
+            [Fails::AllBut(place), Fails::Never],
+            [Fails::OneIn(2), Fails::Never],
+            [Fails::OneIn(3), Fails::OneIn(3)],
+            [Fails::OneIn(12), Fails::OneIn(12)],
+            [Fails::Never, Fails::Never],
+        ]);
+        if random.one_in(2) {
+            fails.reverse();
+        }
+        let mut plan = Self::passing(random, setup);
+        plan.patterns = fails.map(Pattern::verge);
+        plan.amendments = random.pick(&[3, 6, 12, 100]);
+        plan.free = random.one_in(4);
+        plan
+    }
+
     /// The same without deletions.
     pub fn without_deletions(self) -> Self {
         Plan {
@@ -78,7 +107,7 @@ impl Plan {
         if !year.short() && !year.last_period() && random.one_in(4) {
             return Move::NextPeriod;
         }
-        if random.one_in(12) {
+        if random.one_in(self.amendments) {
             return Move::Amendment(year.standards.map(|t| self.amended(random, t)));
         }
         self.engine(random, year)
@@ -97,10 +126,11 @@ impl Plan {
     }
 
     fn amended(&self, random: &mut Random, standard: u32) -> u32 {
-        match random.below(4) {
+        match random.below(5) {
             0 => standard,
             1 => (standard + 10 * random.between(0, 30)).min(20_000),
             2 => (standard - 10).max(10),
+            3 => (standard + 10).min(20_000),
             _ if self.free => setups::standard(random),
             _ => standard,
         }

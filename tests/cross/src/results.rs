@@ -22,6 +22,38 @@ pub enum Style {
     Extreme,
     /// Anything.
     Wide,
+    /// The first result far from the standard, which spreads the results so wide
+    /// that the marks stay 'U'; each later one next to the standard, above it if
+    /// the engine is to fail.
+    Verge(Fails),
+}
+
+/// Which engines of a year are to fail the standard.
+#[derive(Clone, Copy, Debug)]
+pub enum Fails {
+    Never,
+    Always,
+    /// At even places, or at odd ones.
+    Even,
+    Odd,
+    /// All but the one at this place.
+    AllBut(usize),
+    /// Any, one in this many.
+    OneIn(usize),
+}
+
+impl Fails {
+    /// Whether the engine at this place, counted from 0, is to fail.
+    fn at(self, random: &mut Random, place: usize) -> bool {
+        match self {
+            Fails::Never => false,
+            Fails::Always => true,
+            Fails::Even => place.is_multiple_of(2),
+            Fails::Odd => place % 2 == 1,
+            Fails::AllBut(other) => place != other,
+            Fails::OneIn(times) => random.one_in(times),
+        }
+    }
 }
 
 /// One pollutant's results of a year.
@@ -69,6 +101,15 @@ impl Pattern {
         pattern
     }
 
+    /// Results next to the standard, on the wanted side of it.
+    pub fn verge(fails: Fails) -> Self {
+        Pattern {
+            style: Style::Verge(fails),
+            level: 0,
+            step: 0,
+        }
+    }
+
     /// The result of the engine at this place, counted from 0.
     pub fn result(&self, random: &mut Random, standard: u32, place: usize) -> u32 {
         let Pattern { style, level, step } = *self;
@@ -84,8 +125,24 @@ impl Pattern {
             Style::Balanced => standard - step.min(standard),
             Style::Extreme => extreme(random, standard),
             Style::Wide => random.between(0, MAX_RESULT),
+            Style::Verge(fails) => {
+                let fails = fails.at(random, place);
+                verge(random, standard, place, fails)
+            }
         };
         wish.min(MAX_RESULT)
+    }
+}
+
+/// Far from the standard at place 0, else at it, one above it, or some tens away
+/// from these: there an amendment brings the standard to the result.
+fn verge(random: &mut Random, standard: u32, place: usize, fails: bool) -> u32 {
+    let away = random.pick(&[0, 0, 0, 0, 1, 9, 10, 20]);
+    match (place, fails) {
+        (0, true) => MAX_RESULT - random.between(0, (MAX_RESULT - standard) / 8),
+        (0, false) => random.between(0, standard / 8),
+        (_, true) => standard + 1 + away,
+        (_, false) => standard.saturating_sub(away),
     }
 }
 

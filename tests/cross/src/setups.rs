@@ -43,13 +43,29 @@ pub fn plain(random: &mut Random) -> Setup {
     setup
 }
 
+/// A volume whose one percent is this many engines, or one more or fewer: next to
+/// a half, or at it.
+pub fn one_percent_near(random: &mut Random, engines: u32) -> u32 {
+    let away = random.pick(&[0, 49, 50, 51]);
+    let volume = if random.one_in(2) {
+        100 * engines + away
+    } else {
+        (100 * engines).saturating_sub(away)
+    };
+    volume.max(1)
+}
+
 pub fn volume(random: &mut Random) -> u32 {
-    match random.below(8) {
+    match random.below(9) {
         0 | 1 => random.pick(&VOLUMES),
         2 => random.between(1, 450),
         3 => random.between(451, 1_599),
         4 => random.between(1_600, 4_500),
         5 => random.between(1, 99_999_999),
+        6 => {
+            let engines = random.between(0, 41);
+            one_percent_near(random, engines)
+        }
         _ => random.between(1_600, 100_000),
     }
 }

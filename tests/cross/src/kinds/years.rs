@@ -4,15 +4,17 @@ use super::{deletions, edges};
 use crate::drive::Drive;
 use crate::plan::{Move, Plan};
 use crate::random::Random;
+use crate::readings::MAX_RESULT;
 use crate::setups;
 use crate::twin::Twin;
 
 pub fn run(twin: &mut Twin, random: &mut Random) {
-    match random.weighted(&[80, 8, 8, 1, 1]) {
+    match random.weighted(&[60, 20, 8, 8, 1, 1]) {
         0 => plain(twin, random),
-        1 => edges::sample_size(twin, random),
-        2 => edges::level_with_limit(twin, random),
-        3 => deletions::all_slots(twin, random),
+        1 => failing(twin, random),
+        2 => edges::sample_size(twin, random),
+        3 => edges::level_with_limit(twin, random),
+        4 => deletions::all_slots(twin, random),
         _ => deletions::forty_first(twin, random),
     }
 }
@@ -33,8 +35,45 @@ fn plain(twin: &mut Twin, random: &mut Random) {
     } else {
         Plan::any(random, &setup)
     };
-    let detours = random.one_in(4);
     let mut drive = Drive::start(twin, random, setup);
+    grow(&mut drive, &mut plan, length, |_, results| results);
+    end(&mut drive);
+}
+
+/// A year in which engines fail, so that fewer count for the one percent than
+/// there are. That is 0, or near a number of engines to which the year comes.
+fn failing(twin: &mut Twin, random: &mut Random) {
+    let length = match random.weighted(&[4, 3, 2, 1]) {
+        0 => random.between(2, 6),
+        1 => random.between(7, 29),
+        2 => random.between(30, 33),
+        _ => random.between(40, 42),
+    };
+    let between = random.between(0, length);
+    let engines = random.pick(&[0, 1, between, between, between, length]);
+    let mut setup = setups::plain(random);
+    setup.volume = setups::one_percent_near(random, engines);
+    let mut plan = Plan::failing(random, &setup);
+    let mut drive = Drive::start(twin, random, setup);
+    // An engine that is deleted at once passes or fails, whatever the next does.
+    grow(&mut drive, &mut plan, length as usize, |drive, results| {
+        let passing = drive.year.standards;
+        let failing = passing.map(|t| (t + 1).min(MAX_RESULT));
+        drive.random.pick(&[results, passing, failing])
+    });
+    end(&mut drive);
+}
+
+/// Makes the moves of a plan until there are this many engines. In one of four
+/// years some engines are preceded by one that is deleted at once, with results
+/// made from theirs.
+fn grow(
+    drive: &mut Drive,
+    plan: &mut Plan,
+    length: usize,
+    deleted: impl Fn(&mut Drive, [u32; 2]) -> [u32; 2],
+) {
+    let detours = drive.random.one_in(4);
     let mut refused = 0;
     while drive.year.engines() < length && refused < 4 {
         let step = plan.next(drive.random, &drive.year);
@@ -42,13 +81,13 @@ fn plain(twin: &mut Twin, random: &mut Random) {
             && detours
             && drive.random.one_in(3)
         {
+            let results = deleted(drive, results);
             drive.detour(results);
         }
         if !drive.enter(step) {
             refused += 1;
         }
     }
-    end(&mut drive);
 }
 
 /// Some last calls: reading, sometimes deletions, the next period twice, or a

@@ -1,6 +1,6 @@
-//! Document 01: the production-line test book under 40 CFR 1054, with the
-//! deletion of the newest engine and the ask before an entry of document 02,
-//! W-201 and W-202.
+//! Document 01: the production-line test book under 40 CFR 1054, with what
+//! document 02 adds: the deletion of the newest engine (W-201), the ask before an
+//! entry (W-202) and the one percent without failing engines (W-204).
 //!
 //! Every call takes the book as lent bytes, recomputes all of it and keeps
 //! nothing between calls. A refused call changes no lent byte.

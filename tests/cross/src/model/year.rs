@@ -1,6 +1,6 @@
-//! Document 01, "Periods" and "Verdict", with document 02, W-201: the year a
-//! book holds, event by event, and the refusals that depend on it (8, 9, 10, 14,
-//! 15 and 17).
+//! Document 01, "Periods" and "Verdict", with document 02, W-201 and W-204: the
+//! year a book holds, event by event, and the refusals that depend on it (8, 9,
+//! 10, 14, 15 and 17).
 
 use std::num::NonZeroU64;
 
@@ -20,6 +20,14 @@ struct Engine {
     results: [u16; 2],
     /// The standards in force when it was entered.
     standards: [u16; 2],
+}
+
+impl Engine {
+    /// "both results at or below the standards in force when entered"
+    fn passes(&self) -> bool {
+        let mut pairs = self.results.iter().zip(&self.standards);
+        pairs.all(|(result, standard)| result <= standard)
+    }
 }
 
 const NO_ENGINE: Engine = Engine {
@@ -81,6 +89,19 @@ impl Year {
         self.engines.get(..self.n()).unwrap_or_default()
     }
 
+    /// How many engines verdict 4 counts: those in the book that pass. An
+    /// amendment after an engine does not change whether it passes, so this is
+    /// not asked of the standards that are now in force.
+    fn passing(&self) -> u64 {
+        let passing = self.engines().iter().filter(|engine| engine.passes());
+        passing.count() as u64
+    }
+
+    /// "one percent of P, rounded, halves to even"
+    fn one_percent(&self) -> u64 {
+        half_even(self.setup.volume.into(), HUNDRED)
+    }
+
     /// The marks of the strip, HC+NOx then CO for each engine.
     pub(super) fn strip(&self) -> &[u8] {
         self.marks
@@ -98,7 +119,8 @@ impl Year {
         self.in_period < if self.period == 1 { 2 } else { 1 }
     }
 
-    /// "The first that applies".
+    /// "The first that applies". Verdict 3 "still counts every engine". If every
+    /// engine fails, verdict 4 needs a one percent of 0.
     fn verdict(&self) -> u8 {
         if self.declared {
             7
@@ -112,7 +134,7 @@ impl Year {
             2
         } else if self.n() >= 30 {
             3
-        } else if self.pollutants[0].n >= half_even(self.setup.volume.into(), HUNDRED) {
+        } else if self.passing() >= self.one_percent() {
             4
         } else {
             1

@@ -41,7 +41,9 @@ impl Twin {
         let mut journal = self.kept.clone();
         let returned = library::engine(&mut journal, number, hcnox, co, lent.part_mut());
         let entered = Outcome::words(returned, lent);
-        self.expect_same_answer(Call::Engine(number, hcnox, co), asked, &entered);
+        let call = Call::Engine(number, hcnox, co);
+        self.expect_same_answer(call, asked, &entered);
+        self.expect_counted(call, asked, &journal);
     }
 
     /// Checks that the line of key T just made, made with key E, is answered the
@@ -52,7 +54,9 @@ impl Twin {
         entry[0] = b'E';
         let length = library::command(&mut journal, &entry, lent.part_mut());
         let entered = Outcome::bytes(length, length, lent);
-        self.expect_same_answer(Call::Line(&entry), asked, &entered);
+        let call = Call::Line(&entry);
+        self.expect_same_answer(call, asked, &entered);
+        self.expect_counted(call, asked, &journal);
     }
 
     fn expect_same_answer(&mut self, call: Call, asked: &Outcome, entered: &Outcome) {

@@ -37,6 +37,8 @@ impl Twin {
         }
         if letter == b'T' {
             self.expect_same_reply(line, noise, &found);
+        } else {
+            self.expect_counted_here(call, &found);
         }
         self.counts.call(Column::of_letter(letter), refusal);
         self.counts.reply(letter, &reply);
@@ -57,12 +59,14 @@ impl Twin {
         let journal = self.library.part_mut();
         let returned = library::engine(journal, number, &copy.0, &copy.1, lent.part_mut());
         let answer = model::engine(self.model.part_mut(), number, hcnox, co);
+        let found = Outcome::words(returned, lent);
         let wanted = figures(&answer, expected);
-        self.compare(call, &Outcome::words(returned, lent), &wanted);
+        self.compare(call, &found, &wanted);
         self.expect_read(call, &wanted, &copy, &given);
         if answer.is_err() {
             self.expect_kept(call, &wanted);
         }
+        self.expect_counted_here(call, &found);
         let refusal = self.count(Column::Engine, &answer);
         self.look();
         refusal
@@ -75,9 +79,11 @@ impl Twin {
         let expected = lent.clone();
         let returned = library::status(self.library.part(), lent.part_mut());
         let answer = model::status(self.model.part());
+        let found = Outcome::words(returned, lent);
         let wanted = figures(&answer, expected);
-        self.compare(Call::Status, &Outcome::words(returned, lent), &wanted);
+        self.compare(Call::Status, &found, &wanted);
         self.expect_kept(Call::Status, &wanted);
+        self.expect_counted_here(Call::Status, &found);
         self.count_version(answer.is_ok());
         self.count(Column::Status, &answer)
     }

@@ -2,6 +2,7 @@
 
 mod asks;
 mod calls;
+mod counted;
 mod short;
 mod told;
 
