@@ -12,7 +12,7 @@ use Rattle.year.specs.Setup.{Pollutant, Hcnox, Co, of}
 use Rattle.year.specs.Replay.{Progress, history, tested_in, newest_in}
 use Rattle.year.specs.declared.Tested.{Tested}
 use Rattle.year.proofs.Replayed.{history-length}
-use Rattle.year.proofs.Ranges.{standard-le, tested-in-le, tested-in-next, fitting, admitted-engine, after-in-range}
+use Rattle.year.proofs.Ranges.{standard-le, tested-in-le, fitting, admitted-engine, after-in-range}
 use Rattle.figures.specs.declared.Running.{Running}
 use Rattle.figures.specs.Running.{running, RunningInRange}
 use Rattle.engines.specs.Engines.{Engines, tested, EngineInRange, EnginesInRange}
@@ -39,7 +39,7 @@ pub record Deletable (p : State) : Type 0 where
 -- a period whose engine is the newest has one more than without it
 pub newest-counted : (period : ℕ) (xs : List Tested) → newest_in period xs ≡ true → tested_in period xs ≡ tested_in period (drop 1 xs) + 1
 newest-counted period [] h = absurd (false≢true h)
-newest-counted period (x ∷ xs) h = rw (tested-in-next period x xs, h) (omega arith)
+newest-counted period (x ∷ xs) h = rw h (omega arith)
 
 module _ (p : State) (c : Consistent p) where
   pub counted : length (tested p.engines) ≡ array_vec_len p.engines

@@ -12,7 +12,7 @@ use Rattle.year.specs.declared.Event.{Event}
 use Rattle.year.specs.declared.Event.TheVariants.{Engine, Amendment, NextPeriod, Declaration, Deletion}
 use Rattle.year.specs.Replay.{after, tested_in}
 use Rattle.year.specs.Ranges.{InRange}
-use Rattle.year.proofs.Ranges.{after-in-range, none-in-next, tested-in-next, fitting}
+use Rattle.year.proofs.Ranges.{after-in-range, none-in-next, fitting}
 use Rattle.figures.specs.declared.Running.{Running}
 use Rattle.figures.specs.Running.{running}
 use Rattle.engines.specs.Engines.{Engines, tested}
@@ -79,5 +79,5 @@ module _ (p : State) (c : Consistent p) where
       → ((xs : List Test) → p.figures.co ≡ running 1024 xs → f.co ≡ running 1024 (record { result = results.co; standard = p.standards.co } ∷ xs))
       → Consistent (with-engines p e (p.current + 1) f)
   engine number readings results e f h te eh eo =
-      stepped (Engine number readings results) h _ (rw te) (rw (te, tested-in-next p.period _ (tested p.engines), eq-eqb p.period p.period refl) (omega (arith, c.current)))
+      stepped (Engine number readings results) h _ (rw te) (rw (te, eq-eqb p.period p.period refl) (omega (arith, c.current)))
       (record { hcnox = rw te (eh _ c.figures.hcnox); co = rw te (eo _ c.figures.co) })

@@ -1,6 +1,6 @@
 -- Every list of events that could have been entered keeps the year in its ranges.
 use mathlib.Core.Path.{◌≡◌, refl}
-use mathlib.Core.Bool.{Bool, true, false, cond, not, ◌&&◌, ◌||◌, and-eq-true_iff}
+use mathlib.Core.Bool.{Bool, true, false, not, ◌&&◌, ◌||◌, and-eq-true_iff}
 use mathlib.Core.List.{List, [], ◌∷◌}
 use Prim.Native.Nat.{ℕ, ◌+◌, ◌%◌, ◌≤◌, ◌<◌}
 use native.Mathlib.Nat.{le_refl}
@@ -8,7 +8,6 @@ use native.Mathlib.Omega.{arith}
 use lib.Dec.{leb, ltb, eqb}
 use lib.ListN.{length, drop}
 use borrow.Author.Tests.{leb-true, leb-false, not-true, ne_eqb}
-use Rattle.std.proofs.lemmas.List.Sums.{sum_by-cons, count_by-le-length}
 use Rattle.conditions.specs.Ranges.{within}
 use Rattle.conditions.proofs.Tests.{by-test, or-false}
 use Rattle.rounding.specs.Result.{count_in_range, result_in_range}
@@ -67,16 +66,14 @@ periods-later n (x ∷ xs) r = (omega (arith, r.0), periods-later n xs r.1)
 
 -- a period has at most as many engines as the year
 pub tested-in-le : (n : ℕ) (xs : List Tested) → tested_in n xs ≤ length xs
-tested-in-le n xs = count_by-le-length (λ x. eqb x.period n) xs
-
--- one more engine in a period, or in another
-pub tested-in-next : (n : ℕ) (x : Tested) (xs : List Tested) → tested_in n (x ∷ xs) ≡ cond (eqb x.period n) 1 0 + tested_in n xs
-tested-in-next n = sum_by-cons (λ x. cond (eqb x.period n) 1 0)
+tested-in-le n [] = omega arith
+tested-in-le n (x ∷ xs) =
+    by-test (λ m. m + tested_in n xs ≤ length (x ∷ xs)) (eqb x.period n) 1 0 (λ _. omega (arith, tested-in-le n xs)) (λ _. omega (arith, tested-in-le n xs))
 
 -- a new period has no engines yet
 pub none-in-next : (n : ℕ) (xs : List Tested) → PeriodsUpTo n xs → tested_in (n + 1) xs ≡ 0
 none-in-next n [] r = refl
-none-in-next n (x ∷ xs) r = rw (tested-in-next (n + 1) x xs, ne_eqb x.period (n + 1) (λ e. absurd (omega (arith, r.0))), none-in-next n xs r.1)
+none-in-next n (x ∷ xs) r = rw (ne_eqb x.period (n + 1) (λ e. absurd (omega (arith, r.0))), none-in-next n xs r.1)
 
 pub start-in-range : (s : Setup) → setup_in_range s ≡ true → InRange (start s)
 start-in-range s h =

@@ -1,6 +1,6 @@
 -- What a setup and its events amount to: every figure of document 01 is computed from this, and none looks at the events themselves.
 -- Events and tested engines are listed with the newest first.
-use Rattle.std.specs.Prelude.{Bool, true, false, ◌||◌, List, [], ◌∷◌, ℕ, ◌+◌, eqb, ltb, drop, count_by}
+use Rattle.std.specs.Prelude.{Bool, true, false, cond, ◌||◌, List, [], ◌∷◌, ℕ, ◌+◌, eqb, ltb, drop}
 use Rattle.statistics.specs.declared.Test.{Test}
 use Rattle.year.specs.declared.Pair.{Pair}
 use Rattle.year.specs.declared.Setup.{Setup}
@@ -76,7 +76,8 @@ history q (x ∷ xs) = record { result = of q x.results; standard = of q x.stand
 
 -- how many engines were tested in a period
 abbrev pub tested_in : ℕ → List Tested → ℕ
-tested_in period xs = count_by (λ x. eqb x.period period) xs
+tested_in period [] = 0
+tested_in period (x ∷ xs) = cond (eqb x.period period) 1 0 + tested_in period xs
 
 -- whether the newest engine was tested in a period; false if there is no engine
 abbrev pub newest_in : ℕ → List Tested → Bool
