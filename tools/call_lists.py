@@ -23,8 +23,10 @@ Each strip is computed a second time, from fractions, and compared with work at 
 strikes are computed a second time from its events without these and the engines that they removed; a strike right after its engine must give the status before.
 Each ask is answered a second time by entering its engine on the book read anew; one right before its engine must have that engine's answer; and with all asks
 taken out, the lines must give the same other answers and leave the same array.
+Where verdict 1, 3 or 4 is answered, the engines and those that pass are counted a second time, from the events.
 Counts of what occurred go to standard error; the script fails if a refusal, a verdict, a mark, a strike after an engine, an amendment or a strike, a book of
-either version, a pair of refusals that can hold at once (of which the first must be given), or an ask of any answer right before its engine never occurred.
+either version, a pair of refusals that can hold at once (of which the first must be given), an ask of any answer right before its
+engine, or a verdict 1, 3 or 4 that failing engines bring about or leave never occurred.
 """
 import copy
 import random

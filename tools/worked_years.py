@@ -200,8 +200,8 @@ def struck_years(sheet):
 
 def full_struck_years(sheet):
     """Forty engines of the largest results, the last struck, a forty-first in its place, another that does not fit, and strikes until no slot is left. Thirty
-    engines (verdict 3), and the strike of the thirtieth; twenty that pass where one percent is twenty (verdict 4). One engine and sixty-two amendments: a strike in the
-    last slot, and one more; the same with all slots taken. Thirty-two engines, each struck at once, and one more."""
+    engines (verdict 3), and the strike of the thirtieth; twenty that pass where one percent is twenty (verdict 4). One engine and sixty-two amendments: a strike
+    in the last slot, and one more; the same with all slots taken. Thirty-two engines, each struck at once, and one more."""
     turns = [E(i + 1, 3, 20000 * (i % 2), 20000 - 20000 * (i % 2)) for i in range(41)]
     sheet.title('struck, forty')
     sheet.year((99999999, 20000, 20000), turns[:40] + [Z, SHOW, turns[40], SHOW, E(42, 1, 0, 0), SHOW] + [Z, SHOW] * 22 + [Z], 8 * K, each=False)
