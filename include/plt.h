@@ -11,8 +11,8 @@
    of version 2, any other of version 1. Journals stored before there were strikes are read as before; a library of that time refuses version 2 by 7.
 
    plt_ask tells what entering an engine would give, before it is entered, as the key line "T .." does: it returns what plt_engine would return and writes the
-   figures that plt_engine would write, but leaves the journal as it is. An ask takes up no engine number and no slot, and it may be repeated. plt_ask, plt_status
-   and plt_marks only read the journal.
+   figures that plt_engine would write, but leaves the journal as it is. An ask takes up no engine number and no slot, and it may be repeated. plt_ask, plt_status,
+   plt_marks and plt_report only read the journal.
 
    Units. A result unit is one tenth of the last decimal of the standard: 0.01 g/kWh under a standard of 8.0 g/kWh, 0.1 g/kWh under one of 610. Standards, results
    and their sum S are in result units, readings in thousandths of a result unit, s in 1/1,024, and C and H in 1/4,096 result unit; N is in tenths.
@@ -38,9 +38,11 @@ extern "C" {
 #define PLT_JOURNAL_SIZE 544 /* bytes of a journal */
 #define PLT_REPLY_SIZE 96    /* smallest output that plt_command takes; it holds any reply */
 #define PLT_MARKS_SIZE 80    /* smallest output that holds the marks of any journal: forty engines */
+#define PLT_REPORT_LINE_SIZE 61 /* bytes of a line of the wall page, its newline included */
+#define PLT_REPORT_SIZE 2501 /* smallest output that holds the wall page of any journal: a head line and forty engines */
 #define PLT_FIGURE_COUNT 20  /* figures of a status */
 
-/* What a call returns; refusals are listed in the order in which they are checked, 17 after 9. plt_command does not return it, but writes it into its reply
+/* What a call returns; refusals are listed in the order in which they are checked, 17 after 9, 18 last. plt_command does not return it, but writes it into its reply
    ("NO 8"). */
 enum plt_refusal {
     PLT_ACCEPTED = 0,
@@ -61,6 +63,7 @@ enum plt_refusal {
     PLT_REFUSED_ENGINES_FULL = 14,   /* the year has forty engines, without struck ones */
     PLT_REFUSED_PERIOD = 15,         /* this is the last period, or it lacks engines */
     PLT_REFUSED_MARKS_SIZE = 16,     /* the output for marks has fewer than two bytes for each engine */
+    PLT_REFUSED_REPORT_SIZE = 18,    /* the output for the wall page has no room for its head line and a line for each engine */
     PLT_TOO_FEW_FIGURES = 255        /* no refusal: the array lent for the figures has fewer than PLT_FIGURE_COUNT numbers, and nothing was done */
 };
 
@@ -133,6 +136,20 @@ uint8_t plt_status(const uint8_t *journal, size_t journal_length, uint64_t *figu
    written  receives the number of bytes written: 2n, or 0 after a refusal.
    returns  0, or the refusal: 3, 7 or 16. */
 uint8_t plt_marks(const uint8_t *journal, size_t journal_length, uint8_t *out, size_t out_length, size_t *written);
+
+/* Writes the wall page of a journal: a head line, then a line for each engine that was not struck, in the order of entry. Each line is 60 bytes and a newline, so the
+   line of engine i, counted from 1, starts at PLT_REPORT_LINE_SIZE * i, and the head line at 0. Numbers are decimal, right-aligned with spaces in columns that
+   abut, so a reader goes by position:
+
+     head line    P at 0 (8 bytes), D at 8 (3), the number of periods of the year at 11 (1), then spaces;
+     engine line  its number at 0 (5 bytes), its results for HC+NOx at 5 (5) and CO at 10 (5), C low and C high of HC+NOx at 15 and 25 (10 each) and of CO at 35 and
+                  45 (10 each), its marks for HC+NOx at 55 (1) and CO at 56 (1), then three spaces. C is what it was at that engine, in 1/4,096 result unit.
+
+   out      at least PLT_REPORT_LINE_SIZE bytes for the head line and for each such engine, else it is refused by 18. The page is written at its front; later bytes
+            are unchanged.
+   written  receives the number of bytes written: 61 * (n + 1), or 0 after a refusal.
+   returns  0, or the refusal: 3, 7 or 18. */
+uint8_t plt_report(const uint8_t *journal, size_t journal_length, uint8_t *out, size_t out_length, size_t *written);
 
 #ifdef __cplusplus
 }

@@ -67,7 +67,7 @@ reply-apart : (line journal out : List ℕ) → reply_count line journal out ≡
 unfolding reply_count
 reply-apart line journal out = apart 96 out 0 (length (reply_to line journal)) (λ e. omega (arith, reply-long line journal))
 
-refusal-below : (call : Call) (journal : List ℕ) → (outcome call journal).refusal ≤ 17
+refusal-below : (call : Call) (journal : List ℕ) → (outcome call journal).refusal ≤ 18
 unfolding outcome
 refusal-below call journal = refusal-up-to (length journal) call (read_journal journal)
 

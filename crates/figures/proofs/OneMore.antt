@@ -3,7 +3,7 @@ use mathlib.Core.Path.{◌≡◌, ap}
 use mathlib.Core.Bool.{false, ◌||◌}
 use mathlib.Core.List.{List, [], ◌∷◌}
 use Prim.Native.Nat.{ℕ, ◌+◌, ◌*◌, ◌≤◌, ◌<◌}
-use native.Mathlib.Nat.{mul-le-mul, mul-le-mul_left}
+use native.Mathlib.Nat.{mul-le-mul}
 use native.Mathlib.Omega.{arith}
 use lib.ListN.{length}
 use Rattle.spread.specs.declared.Sums.{Sums}
@@ -26,6 +26,7 @@ use Rattle.cumsum.specs.Intervals.{next_cumsum, cumsum, limit_of}
 use Rattle.cumsum.specs.Marks.{compared, both_over, undecided_pair, failed, undecided}
 use Rattle.figures.specs.Running.{newest_standard, running, RunningInRange, Worked}
 use Rattle.marking.specs.Ranges.{NextInRange}
+use Rattle.cumsum.proofs.Bounds.{cumsum-le}
 use Rattle.cumsum.proofs.Finer.{cumsum-width}
 
 module _ (k : ℕ) where
@@ -71,12 +72,6 @@ module _ (k : ℕ) where
   unfolding running failed undecided
   later f x s d c l m [] ef es two ed ec el em = absurd (omega (arith, ap (λ (z : Sums). z.n) es))
   later f x s d c l m (y ∷ h) ef es two ed ec el em = rw (em, el, ec, ed, es, ef)
-
--- C is at most what a result of 20,000 at every engine would add
-cumsum-le : (k : ℕ) (h : List Test) → TestsInRange h → (cumsum k h).high ≤ length h * (4 * k * 20000)
-cumsum-le k [] r = omega arith
-cumsum-le k (x ∷ []) r = omega arith
-cumsum-le k (x ∷ y ∷ h) r = omega (arith, cumsum-le k (y ∷ h) r.2, mul-le-mul_left (4 * k) r.0)
 
 module _ (k : ℕ) (f : Running) (x : ℕ) (r : RunningInRange k f x) where
   pub sums-in-range : SumsInRange f.sums x

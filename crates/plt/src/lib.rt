@@ -1,10 +1,10 @@
-// Production-line testing for programs in other languages: the key line, an engine's entry and its preview, status and the marks, on a lent journal.
+// Production-line testing for programs in other languages: the key line, an engine's entry and its preview, status, the marks and the wall page, on a lent journal.
 // include/plt.h has the same functions for C. A slice is a pointer and a length. There is no precondition on what is lent, and the contracts give every byte and number of it.
 #![tactic(auto)]
 
 ghost use Rattle.std.specs.Prelude.{◌≡◌, ◌<◌};
-ghost use Rattle.reference.specs.Call.{engine_entry, engine_preview, entry_of, preview_of, Marks, ReadStatus, Enter, Ask};
-ghost use Rattle.reference.specs.Answers.{out_after, output_outcome};
+ghost use Rattle.reference.specs.Call.{engine_entry, engine_preview, entry_of, preview_of, Marks, Report, ReadStatus, Enter, Ask};
+ghost use Rattle.reference.specs.Answers.{out_after, output_outcome_of, output_outcome};
 ghost use Rattle.exports.specs.Exports.{reply_count, reply_left, line_left, refusal_given, figures_left, journal_left};
 
 use answers::put_answer;
@@ -13,8 +13,8 @@ use commands::reply;
 use entries::{enter_engine, preview_engine};
 use exports::FIGURE_COUNT;
 use protocol::REPLY_SIZE;
-use queries::{read_status, write_marks};
-use reference::{EngineEntry, OutputOutcome};
+use queries::{read_status, write_marks, write_report};
+use reference::{EngineEntry, OutputAnswer, OutputOutcome};
 use year::Pair;
 
 // No refusal: what a call returns that has no room for its figures.
@@ -105,6 +105,15 @@ pub extern "C" fn plt_status(journal: &[u8], figures: &mut [u64]) -> u8
     put_answer(figures, read_status(journal))
 }
 
+// What a call that writes an output answered: returns its refusal, 0 for none, and writes into `written` how many bytes it wrote.
+fn tell(answer: OutputAnswer, written: &mut usize) -> u8
+    ensures { record { refusal = result; length = written.new } ≡ output_outcome_of answer }
+{
+    let outcome = OutputOutcome::from(answer);
+    *written = outcome.length;
+    outcome.refusal
+}
+
 // Marks: returns the refusal, 0 for none, and writes the marks at the front of the output, and into `written` how many bytes they are.
 #[unsafe(no_mangle)]
 pub extern "C" fn plt_marks(journal: &[u8], out: &mut [u8], written: &mut usize) -> u8
@@ -112,7 +121,15 @@ pub extern "C" fn plt_marks(journal: &[u8], out: &mut [u8], written: &mut usize)
     ensures out_after { out.new ≡ out_after Marks journal.now out.old }
     ensures written_after { written.new ≡ (output_outcome Marks journal.now out.old).length }
 {
-    let outcome = OutputOutcome::from(write_marks(journal, out));
-    *written = outcome.length;
-    outcome.refusal
+    tell(write_marks(journal, out), written)
+}
+
+// The wall page, in the same way.
+#[unsafe(no_mangle)]
+pub extern "C" fn plt_report(journal: &[u8], out: &mut [u8], written: &mut usize) -> u8
+    ensures refusal { result ≡ (output_outcome Report journal.now out.old).refusal }
+    ensures out_after { out.new ≡ out_after Report journal.now out.old }
+    ensures written_after { written.new ≡ (output_outcome Report journal.now out.old).length }
+{
+    tell(write_report(journal, out), written)
 }

@@ -22,7 +22,7 @@ use Rattle.journal.specs.Encode.{encode, version}
 use Rattle.journal.specs.Read.{read_journal}
 use Rattle.journal.proofs.OneJournal.{demand}
 use Rattle.std.specs.Prelude.{Ok}
-use Rattle.reference.specs.Call.{Readings, EnterEngine, Form, Marks, ReadStatus, Write, Call, Ask, event_of}
+use Rattle.reference.specs.Call.{Readings, EnterEngine, Form, Marks, Report, ReadStatus, Write, Call, Ask, event_of}
 use Rattle.reference.specs.Refusals.{refusals, refusal}
 use Rattle.reference.specs.Answers.{refusal_on, journal_after, status_of, answer, out_bytes, out_after, out_part, output_answer}
 use Rattle.reference.specs.Deletion.{engine_call, deletion_call, SameFigures, DeletionPromises}
@@ -47,6 +47,7 @@ module _ (s : Setup) (es fs : List Event) (n : ℕ) (same : replay s es ≡ stor
   output-refusal : (form : Form) (size : ℕ) → refusal 544 (Ask (Write form size)) (Year s es) ≡ refusal 544 (Ask (Write form size)) (Year s fs)
   unfolding refusal refusals
   output-refusal Marks size = rw same
+  output-refusal Report size = rw same
 
   call-refusal : n < 64 → p.stored < 64 → (call : Call) → refusal 544 call (Year s es) ≡ refusal 544 call (Year s fs)
   unfolding refusal refusals
@@ -58,6 +59,7 @@ module _ (s : Setup) (es fs : List Event) (n : ℕ) (same : replay s es ≡ stor
 
     bytes_same : (form : Form) → out_bytes form (read_journal a) ≡ out_bytes form (read_journal b)
     bytes_same Marks = rw (ha, hb, same)
+    bytes_same Report = rw (ha, hb, same)
 
     pub same-figures : SameFigures a b
     unfolding out_after out_part output_answer

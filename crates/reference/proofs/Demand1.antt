@@ -24,13 +24,15 @@ use Rattle.year.specs.Setup.{judged}
 use Rattle.year.specs.Status.{year_marks}
 use Rattle.year.specs.Model.{Model, NoSetup, Year}
 use Rattle.year.proofs.Kept.{printed-length}
+use Rattle.report.specs.Report.{report}
+use Rattle.report.proofs.Shown.{report-shown}
 use Rattle.year.specs.Deletions.{is_deletion}
 use Rattle.journal.specs.Encode.{setup_version, encode, slot_place, slot_of, with_slot, version_in, raises, raised, append}
 use Rattle.journal.specs.Read.{read_journal}
 use Rattle.journal.proofs.Encoded.{length-slot}
 use Rattle.journal.proofs.OneJournal.{demand}
 use Rattle.reference.specs.declared.Change.TheVariants.{Amend, BeginPeriod, Declare, Delete}
-use Rattle.reference.specs.Call.{Entry, EnterEngine, EnterChange, Form, Marks, Write, Call, SetUp, Enter, Ask, event_of, of_change, of_deletion}
+use Rattle.reference.specs.Call.{Entry, EnterEngine, EnterChange, Form, Marks, Report, Write, Call, SetUp, Enter, Ask, event_of, of_change, of_deletion}
 use Rattle.reference.specs.Refusals.{refusals, refusal}
 use Rattle.reference.specs.declared.OutputOutcome.{OutputOutcome}
 use Rattle.reference.specs.Answers.{refusals_on, refusal_on, with_entry, written, journal_after, no_status, status_of, answer, Outcome, outcome_of, outcome, out_bytes, out_after, out_part, output_answer, output_outcome_of, output_outcome}
@@ -168,6 +170,10 @@ pub mark-bytes : (model : Model) → length (out_bytes Marks model) ≡ 2 * (sta
 mark-bytes NoSetup = refl
 mark-bytes (Year s es) = length-map (year_marks 1024 (replay s es)) mark_byte ∙ printed-length judged 1024 (replay s es).tested
 
+-- the page of a journal that holds a year, whose figures fit their columns
+pub report-bytes : (journal : List ℕ) (s : Setup) (es : List Event) → read_journal journal ≡ Year s es → length (report (replay s es)) ≡ 61 * (length (replay s es).tested + 1)
+report-bytes journal s es e = (report-shown.every s es (demand.accepted journal s es e).valid).size
+
 pub out-fits : (form : Form) (journal : List ℕ) (size : ℕ) → refusal_on (Ask (Write form size)) journal ≡ 0 → length (out_bytes form (read_journal journal)) ≤ size
 unfolding refusals
 out-fits Marks journal size h =
@@ -176,6 +182,11 @@ out-fits Marks journal size h =
     by : (model : Model) → applies (refusals (length journal) (Ask (Write Marks size)) model) 16 ≡ false → 2 * (status_of model).n ≤ size
     by NoSetup row = omega arith
     by (Year s es) row = ltb-false size (2 * length (replay s es).tested) row
+out-fits Report journal size h = by (read_journal journal) refl (not-refused (length journal) (Ask (Write Report size)) (read_journal journal) h 18)
+  where
+    by : (model : Model) → read_journal journal ≡ model → applies (refusals (length journal) (Ask (Write Report size)) model) 18 ≡ false → length (out_bytes Report model) ≤ size
+    by NoSetup e row = omega arith
+    by (Year s es) e row = rw (report-bytes journal s es e) (ltb-false size (61 * (length (replay s es).tested + 1)) row)
 
 -- to prove a fact of the output after a call, prove it of the output before, and of that output with the form's bytes put at its front if they fit
 by-output : (P : List ℕ → Type 0) (form : Form) (journal out : List ℕ) → P out
@@ -217,6 +228,7 @@ demand-1 =
           (λ fits. put_other out 0 (bytes form journal out) i fits (inr (omega arith)));
       out_size = λ form journal out. by-output (λ b. length b ≡ length out) form journal out refl (length-put out 0 (bytes form journal out));
       marks_count = λ journal. mark-bytes (read_journal journal);
+      report_count = λ journal s es e. rw e (report-bytes journal s es e);
       refused_by = refused-by;
       accepted = accepted-if;
       order = λ call journal. refl;

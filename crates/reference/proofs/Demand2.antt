@@ -26,7 +26,7 @@ use Rattle.year.proofs.Replayed.{history-length}
 use Rattle.journal.specs.Read.{read_journal}
 use Rattle.journal.proofs.OneJournal.{demand}
 use Rattle.std.specs.Prelude.{Ok}
-use Rattle.reference.specs.Call.{Form, Marks, ReadStatus, Write, Call, SetUp, Enter, Ask, previewed, is_setup}
+use Rattle.reference.specs.Call.{Form, Marks, Report, ReadStatus, Write, Call, SetUp, Enter, Ask, previewed, is_setup}
 use Rattle.reference.specs.Answers.{refusal_on, journal_after, status_of, answer, out_bytes, out_after, out_part}
 use Rattle.reference.specs.Model.{accepted}
 use Rattle.reference.specs.Demand2.{figures_of, Shows, Demand2}
@@ -162,6 +162,8 @@ demand-2 =
       verdict_else = λ k p. none_is (verdict_rows k p) 1;
       marks = λ journal out s es e h.
           accepted-gives (Ask (Write Marks (length out))) journal (put out 0 (out_bytes Marks (read_journal journal))) out h ∙ rw e;
+      page = λ journal out s es e h.
+          accepted-gives (Ask (Write Report (length out))) journal (put out 0 (out_bytes Report (read_journal journal))) out h ∙ rw e;
       handed_back = handed-back;
       journals = demand;
     }

@@ -3,10 +3,10 @@ use mathlib.Core.Path.{◌≡◌, refl, ap, ◌∙◌}
 use mathlib.Core.Logic.{◌≢◌}
 use mathlib.Core.Bool.{Bool, true, false, true≢false}
 use mathlib.Core.List.{List}
-use Prim.Native.Nat.{ℕ, ◌*◌, ◌≤◌, ◌<◌}
+use Prim.Native.Nat.{ℕ, ◌+◌, ◌*◌, ◌≤◌, ◌<◌}
 use lib.Dec.{eqb}
 use lib.ListN.{length, get_or}
-use borrow.Author.Tests.{eq-eqb, ne_eqb, eqb-true, eqb-false, le-ltb}
+use borrow.Author.Tests.{eq-eqb, ne_eqb, eqb-true, eqb-false, le-ltb, lt-ltb}
 use Rattle.conditions.specs.Rows.{applies}
 use Rattle.conditions.proofs.Tests.{not-false}
 use Rattle.year.specs.declared.Setup.{Setup}
@@ -20,7 +20,7 @@ use Rattle.journal.specs.Read.{read_journal}
 use Rattle.journal.proofs.OneJournal.{demand}
 use Rattle.journal.proofs.Reading.{read-few}
 use Rattle.std.specs.Prelude.{Ok, Err}
-use Rattle.reference.specs.Call.{Entry, Marks, ReadStatus, Write, Preview, Call, SetUp, Enter, Ask, previewed, event_of, is_setup}
+use Rattle.reference.specs.Call.{Entry, Marks, Report, ReadStatus, Write, Preview, Call, SetUp, Enter, Ask, previewed, event_of, is_setup}
 use Rattle.reference.specs.Refusals.{refusals, refusal}
 use Rattle.reference.specs.Refused.{named}
 use Rattle.reference.specs.Answers.{refusal_on, refusals_on, if_accepted, journal_after, status_of, answer, outcome_of, outcome}
@@ -115,7 +115,7 @@ module _ (entry : Entry) (journal : List ℕ) (s : Setup) (es : List Event) (e :
 pub year-size : (journal : List ℕ) (s : Setup) (es : List Event) → read_journal journal ≡ Year s es → length journal ≡ 544
 year-size journal s es e = let j = demand.accepted journal s es e in ap length j.stored ∙ demand.size (version_in journal) s es j.valid
 
--- status and marks on 544 bytes: accepted if these hold a year and the marks fit the output; refused by 7 if they hold none
+-- status, marks and the report on 544 bytes: accepted if these hold a year and the output is long enough; refused by 7 if they hold none
 module _ (journal : List ℕ) (n : length journal ≡ 544) where
   pub status-accepted : no_setup (read_journal journal) ≡ false → refusal_on (Ask ReadStatus) journal ≡ 0
   unfolding refusal refusals
@@ -133,3 +133,16 @@ module _ (journal : List ℕ) (n : length journal ≡ 544) where
   pub marks-none : (size : ℕ) → read_journal journal ≡ NoSetup → refusal_on (Ask (Write Marks size)) journal ≡ 7
   unfolding refusal refusals
   marks-none size e = rw (n, e)
+
+  pub report-none : (size : ℕ) → read_journal journal ≡ NoSetup → refusal_on (Ask (Write Report size)) journal ≡ 7
+  unfolding refusal refusals
+  report-none size e = rw (n, e)
+
+  module _ (size : ℕ) (s : Setup) (es : List Event) (e : read_journal journal ≡ Year s es) where
+    pub report-accepted : 61 * (length (replay s es).tested + 1) ≤ size → refusal_on (Ask (Write Report size)) journal ≡ 0
+    unfolding refusal refusals
+    report-accepted h = rw (n, e, le-ltb size (61 * (length (replay s es).tested + 1)) h)
+
+    pub report-short : size < 61 * (length (replay s es).tested + 1) → refusal_on (Ask (Write Report size)) journal ≡ 18
+    unfolding refusal refusals
+    report-short h = rw (n, e, lt-ltb size (61 * (length (replay s es).tested + 1)) h)

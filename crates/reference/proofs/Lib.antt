@@ -1,6 +1,7 @@
 pub mod Cases
 pub mod CasesOfForty
 pub mod CasesOfDeletion
+pub mod CasesOfReport
 pub mod CasesOfPreview
 pub mod Validity
 pub mod WithSetup
@@ -12,6 +13,7 @@ pub mod Demand1
 pub mod Promises
 pub mod Demand2
 pub mod Deletion
+pub mod Report
 pub mod Preview
 pub mod FailingEngines
 pub mod Demand3

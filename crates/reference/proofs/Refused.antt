@@ -10,7 +10,7 @@ use Rattle.conditions.proofs.Tests.{by-test}
 use Rattle.year.specs.Model.{Model}
 use Rattle.journal.specs.Read.{read_journal}
 use Rattle.reference.specs.declared.Refusal.{Refusal}
-use Rattle.reference.specs.declared.Refusal.TheVariants.{LineTooLong, LineForm, JournalSize, ProductionRange, StandardRange, FactorRange, NotAJournal, YearClosed, EventsFull, EngineNumber, ReadingCount, ReadingRange, ResultRange, EnginesFull, NoNextPeriod, OutputSize, NothingToDelete}
+use Rattle.reference.specs.declared.Refusal.TheVariants.{LineTooLong, LineForm, JournalSize, ProductionRange, StandardRange, FactorRange, NotAJournal, YearClosed, EventsFull, EngineNumber, ReadingCount, ReadingRange, ResultRange, EnginesFull, NoNextPeriod, MarksSize, NothingToDelete, ReportSize}
 use Rattle.std.proofs.lemmas.Bool.Decides.{nat_tests}
 use Rattle.std.specs.Prelude.{Ok, Err}
 use Rattle.reference.specs.Call.{Call}
@@ -18,7 +18,7 @@ use Rattle.reference.specs.Refusals.{refusals, refusal}
 use Rattle.reference.specs.Answers.{refusal_on}
 use Rattle.reference.specs.Refused.{number_of, named, unless_refused, Named}
 
-numbered : (n : ℕ) → 1 ≤ n → n ≤ 17 → number_of (named n) ≡ n
+numbered : (n : ℕ) → 1 ≤ n → n ≤ 18 → number_of (named n) ≡ n
 numbered n low high = grind (arith, nat_tests)
 
 named_again : (r : Refusal) → named (number_of r) ≡ r
@@ -37,17 +37,18 @@ named_again ReadingRange = refl
 named_again ResultRange = refl
 named_again EnginesFull = refl
 named_again NoNextPeriod = refl
-named_again OutputSize = refl
+named_again MarksSize = refl
 named_again NothingToDelete = refl
+named_again ReportSize = refl
 
 pub above_0 : (r : Refusal) → 1 ≤ number_of r
 above_0 r = grind arith
 
-at_most_17 : (r : Refusal) → number_of r ≤ 17
-at_most_17 r = grind arith
+at_most_18 : (r : Refusal) → number_of r ≤ 18
+at_most_18 r = grind arith
 
 pub refusals_named : Named
-refusals_named = record { number = numbered; name = named_again; above_0 = above_0; at_most_17 = at_most_17 }
+refusals_named = record { number = numbered; name = named_again; above_0 = above_0; at_most_18 = at_most_18 }
 
 -- ---- the numbers of the table
 
@@ -60,9 +61,9 @@ first-up-to : (most : ℕ) (rows : List Row) → UpTo most rows → first rows 0
 first-up-to most [] u = omega arith
 first-up-to most (row ∷ rows) u = by-test (λ (n : ℕ). n ≤ most) row.0 row.1 (first rows 0) (λ _. u.0) (λ _. first-up-to most rows u.1)
 
-pub refusal-up-to : (size : ℕ) (call : Call) (model : Model) → refusal size call model ≤ 17
+pub refusal-up-to : (size : ℕ) (call : Call) (model : Model) → refusal size call model ≤ 18
 unfolding refusals refusal
-refusal-up-to size call model = first-up-to 17 (refusals size call model) (omega arith)
+refusal-up-to size call model = first-up-to 18 (refusals size call model) (omega arith)
 
 -- the number of a refused call is that of its refusal
 pub named-number : (size : ℕ) (call : Call) (model : Model) → refusal size call model ≢ 0 → number_of (named (refusal size call model)) ≡ refusal size call model

@@ -7,11 +7,12 @@ use Rattle.year.specs.declared.Status.{Status}
 use Rattle.year.specs.Replay.{Progress, replay}
 use Rattle.year.specs.Status.{blank, status, year_marks}
 use Rattle.year.specs.Model.{Model, NoSetup, Year}
+use Rattle.report.specs.Report.{report}
 use Rattle.journal.specs.Encode.{setup_version, encode, append}
 use Rattle.journal.specs.Read.{read_journal}
 use Rattle.reference.specs.declared.Refusal.{Refusal}
 use Rattle.reference.specs.declared.OutputOutcome.{OutputOutcome}
-use Rattle.reference.specs.Call.{Entry, Form, Marks, Write, Call, SetUp, Enter, Ask, event_of, previewed}
+use Rattle.reference.specs.Call.{Entry, Form, Marks, Report, Write, Call, SetUp, Enter, Ask, event_of, previewed}
 use Rattle.reference.specs.Refusals.{refusals, refusal}
 use Rattle.reference.specs.Refused.{number_of, named}
 
@@ -70,9 +71,10 @@ unfoldable pub outcome : Call → List ℕ → Outcome
 outcome call journal =
     record { refusal = refusal_on call journal; status = if_accepted call journal (status_of (read_journal (journal_after (previewed call) journal))) no_status }
 
--- the bytes of each form of output. Marks: "two marks per engine, HC+NOx then CO", at the calculator's resolution of 1,024
+-- the bytes of each form of output. Marks: "two marks per engine, HC+NOx then CO", at the calculator's resolution of 1,024. Report: the wall page (document 02, W-205)
 abbrev pub form_bytes : Form → Progress → List ℕ
 form_bytes Marks p = map mark_byte (year_marks 1024 p)
+form_bytes Report p = report p
 
 abbrev pub out_bytes : Form → Model → List ℕ
 out_bytes form NoSetup = []
@@ -82,7 +84,7 @@ out_bytes form (Year s es) = form_bytes form (replay s es)
 unfoldable pub out_after : Form → List ℕ → List ℕ → List ℕ
 out_after form journal out = if_accepted (Ask (Write form (length out))) journal (put out 0 (out_bytes form (read_journal journal))) out
 
--- "and hands back just that written part of the buffer", or "an empty part" if it is refused
+-- "and hands back just that written part of the buffer", or "an empty part" if it is refused. The same for the wall page: "The call hands back the written front part"
 unfoldable pub out_part : Form → List ℕ → List ℕ → List ℕ
 out_part form journal out = if_accepted (Ask (Write form (length out))) journal (out_bytes form (read_journal journal)) []
 

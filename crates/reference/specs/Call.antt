@@ -26,9 +26,10 @@ pub data Entry : Type 0 where
   EnterEngine : ℕ → Readings → Entry
   EnterChange : Change → Entry
 
--- what is written into a lent output: the marks ("the strip")
+-- what is written into a lent output: the marks ("the strip"); the report ("the wall page" of document 02, W-205)
 pub data Form : Type 0 where
   Marks : Form
+  Report : Form
 
 -- the calls that only read the journal: status; an output of some form, with the length of the buffer lent for it; and the preview of an engine with its number
 -- and readings, which "only asks" what its entry would answer (document 02, W-202)
@@ -51,7 +52,7 @@ entry_of e = engine_entry e.number e.readings.hcnox.now e.readings.co.now
 abbrev pub preview_of : EngineEntry → Query
 preview_of e = engine_preview e.number e.readings.hcnox.now e.readings.co.now
 
--- the nine calls: setup, five entries, three queries
+-- the ten calls: setup, five entries, and four queries: status, marks, report, preview
 pub data Call : Type 0 where
   SetUp : Setup → Call
   Enter : Entry → Call
@@ -140,7 +141,14 @@ of_deletion test Delete = test
 abbrev pub of_marks : (ℕ → Bool) → Query → Bool
 of_marks test ReadStatus = false
 of_marks test (Write Marks size) = test size
+of_marks test (Write Report size) = false
 of_marks test (Preview number readings) = false
+
+abbrev pub of_report : (ℕ → Bool) → Query → Bool
+of_report test ReadStatus = false
+of_report test (Write Marks size) = false
+of_report test (Write Report size) = test size
+of_report test (Preview number readings) = false
 
 abbrev pub of_preview : (ℕ → Readings → Bool) → Query → Bool
 of_preview test ReadStatus = false

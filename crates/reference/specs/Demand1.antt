@@ -1,7 +1,7 @@
 -- Demand 1: what a call leaves in the lent buffers, and by which number it is refused, for every call and every length and content of the buffers; with the
--- strike and refusal 17 of document 02, W-201, and the preview of W-202.
+-- strike and refusal 17 of document 02, W-201, the preview of W-202, and the wall page and refusal 18 of W-205.
 -- ("Each call ends" is the checker's verdict on the code.)
-use Rattle.std.specs.Prelude.{◌≡◌, ◌↔◌, ◌≢◌, true, false, ◌&&◌, List, [], ◌∷◌, map, ℕ, ◌*◌, ◌≤◌, ◌<◌, eqb, length, get_or}
+use Rattle.std.specs.Prelude.{◌≡◌, ◌↔◌, ◌≢◌, true, false, ◌&&◌, List, [], ◌∷◌, map, ℕ, ◌+◌, ◌*◌, ◌≤◌, ◌<◌, eqb, length, get_or}
 use Rattle.buffers.specs.Bytes.{Outside}
 use Rattle.conditions.specs.Rows.{Row, FirstApplies, NoneApplies}
 use Rattle.year.specs.declared.Setup.{Setup}
@@ -10,7 +10,7 @@ use Rattle.year.specs.Replay.{replay}
 use Rattle.year.specs.Model.{Year}
 use Rattle.journal.specs.Encode.{setup_version, encode, slot_place, version_in, append}
 use Rattle.journal.specs.Read.{read_journal}
-use Rattle.reference.specs.Call.{Entry, EnterChange, Form, Marks, Query, Write, Call, SetUp, Enter, Ask, event_of, of_change, of_deletion}
+use Rattle.reference.specs.Call.{Entry, EnterChange, Form, Marks, Report, Query, Write, Call, SetUp, Enter, Ask, event_of, of_change, of_deletion}
 use Rattle.reference.specs.declared.Change.TheVariants.{Delete}
 use Rattle.reference.specs.Answers.{refusals_on, refusal_on, journal_after, no_status, status_of, answer, outcome_of, out_bytes, out_after, out_part, output_answer, output_outcome_of}
 
@@ -32,17 +32,20 @@ pub record Demand1 : Type 0 where
   pub version_raised : (journal : List ℕ) → refusal_on (Enter (EnterChange Delete)) journal ≡ 0 → version_in journal ≡ 1
       → version_in (journal_after (Enter (EnterChange Delete)) journal) ≡ 2
   pub entry_size : (entry : Entry) (journal : List ℕ) → length (journal_after (Enter entry) journal) ≡ length journal
-  -- for status, marks and a preview, none in the journal
+  -- for status, marks, the wall page and a preview, none in the journal
   pub query_kept : (query : Query) (journal : List ℕ) → journal_after (Ask query) journal ≡ journal
-  -- for an output, the bytes of its form, at the front; for marks, the first 2n. The byte at every other index is unchanged, and so is the length
+  -- for an output, the bytes of its form, at the front; for marks, the first 2n, and for the wall page the first 61 × (n + 1). The byte at every other index is
+  -- unchanged, and so is the length
   pub out_kept : (form : Form) (journal out : List ℕ) (i : ℕ) → length (out_bytes form (read_journal journal)) ≤ i
       → get_or (out_after form journal out) i 0 ≡ get_or out i 0
   pub out_size : (form : Form) (journal out : List ℕ) → length (out_after form journal out) ≡ length out
   pub marks_count : (journal : List ℕ) → length (out_bytes Marks (read_journal journal)) ≡ 2 * (status_of (read_journal journal)).n
+  pub report_count : (journal : List ℕ) (s : Setup) (es : List Event) → read_journal journal ≡ Year s es
+      → length (out_bytes Report (read_journal journal)) ≡ 61 * ((status_of (read_journal journal)).n + 1)
   -- "A call is refused only if one of 01's refusals applies, and the first that applies, in 01's order, is the one returned."
   pub refused_by : (call : Call) (journal : List ℕ) (r : ℕ) → 0 < r → (refusal_on call journal ≡ r) ↔ FirstApplies (refusals_on call journal) r
   pub accepted : (call : Call) (journal : List ℕ) → (refusal_on call journal ≡ 0) ↔ NoneApplies (refusals_on call journal)
-  pub order : (call : Call) (journal : List ℕ) → map (λ (row : Row). row.1) (refusals_on call journal) ≡ 3 ∷ 4 ∷ 5 ∷ 6 ∷ 7 ∷ 8 ∷ 9 ∷ 17 ∷ 10 ∷ 11 ∷ 12 ∷ 13 ∷ 14 ∷ 15 ∷ 16 ∷ []
+  pub order : (call : Call) (journal : List ℕ) → map (λ (row : Row). row.1) (refusals_on call journal) ≡ 3 ∷ 4 ∷ 5 ∷ 6 ∷ 7 ∷ 8 ∷ 9 ∷ 17 ∷ 10 ∷ 11 ∷ 12 ∷ 13 ∷ 14 ∷ 15 ∷ 16 ∷ 18 ∷ []
   pub returned : (call : Call) (journal : List ℕ) → (outcome_of (answer call journal)).refusal ≡ refusal_on call journal
   pub out_returned : (form : Form) (journal out : List ℕ) → (output_outcome_of (output_answer form journal out)).refusal ≡ refusal_on (Ask (Write form (length out))) journal
   -- the length that is returned is that of the part

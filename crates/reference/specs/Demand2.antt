@@ -19,7 +19,8 @@ use Rattle.year.specs.Admissible.{admissible}
 use Rattle.year.specs.Model.{Year, no_setup}
 use Rattle.journal.specs.Read.{read_journal}
 use Rattle.journal.specs.OneJournal.{OneJournal}
-use Rattle.reference.specs.Call.{Entry, Form, Marks, ReadStatus, Write, Call, SetUp, Enter, Ask, event_of, previewed, of_engine}
+use Rattle.report.specs.Report.{report}
+use Rattle.reference.specs.Call.{Entry, Form, Marks, Report, ReadStatus, Write, Call, SetUp, Enter, Ask, event_of, previewed, of_engine}
 use Rattle.reference.specs.Refusals.{counts_fit, readings_fit}
 use Rattle.reference.specs.Answers.{refusal_on, journal_after, answer, outcome_of, out_after, out_part}
 
@@ -64,9 +65,11 @@ pub record Demand2 : Type 0 where
   pub verdict_order : (k : ℕ) (p : Progress) → map (λ (row : Row). row.1) (verdict_rows k p) ≡ 7 ∷ 6 ∷ 5 ∷ 0 ∷ 2 ∷ 3 ∷ 4 ∷ []
   pub verdict_first : (k : ℕ) (p : Progress) (v : ℕ) → FirstApplies (verdict_rows k p) v → verdict k p ≡ v
   pub verdict_else : (k : ℕ) (p : Progress) → NoneApplies (verdict_rows k p) → verdict k p ≡ 1
-  -- what is written: the marks, at the front of the output
+  -- what is written: the marks, at the front of the output; and the wall page (document 02, W-205), of which `ReportPromises` says more
   pub marks : (journal out : List ℕ) (s : Setup) (es : List Event) → read_journal journal ≡ Year s es → refusal_on (Ask (Write Marks (length out))) journal ≡ 0
       → out_after Marks journal out ≡ put out 0 (map mark_byte (year_marks 1024 (replay s es)))
+  pub page : (journal out : List ℕ) (s : Setup) (es : List Event) → read_journal journal ≡ Year s es → refusal_on (Ask (Write Report (length out))) journal ≡ 0
+      → out_after Report journal out ≡ put out 0 (report (replay s es))
   -- "and hands back just that written part": the front of the output
   pub handed_back : (form : Form) (journal out : List ℕ) → take (length (out_part form journal out)) (out_after form journal out) ≡ out_part form journal out
   -- "For one setup, every list of accepted events .. has one book, and every accepted book reads back as its setup and list."

@@ -8,9 +8,11 @@ pub mod Demand1
 pub mod Demand2
 pub mod Demand3
 pub mod Deletion
+pub mod Report
 pub mod Cases
 pub mod CasesOfForty
 pub mod CasesOfDeletion
+pub mod CasesOfReport
 pub mod Preview
 pub mod FailingEngines
 pub mod CasesOfPreview

@@ -1,13 +1,14 @@
--- Document 01, "Refused calls, in checking order", 3 to 16, for every call, and 17 of document 02, which is checked after 9. (1 and 2 belong to the key line.)
+-- Document 01, "Refused calls, in checking order", 3 to 16, for every call, and of document 02 refusal 17, checked after 9, and 18, checked after 16. (1 and 2 belong to
+-- the key line.)
 -- One table, over the call, the length of the journal's buffer, and the year that it holds.
-use Rattle.std.specs.Prelude.{Bool, true, not, ◌&&◌, ◌||◌, List, [], ◌∷◌, ℕ, ◌*◌, eqb, ltb, length}
+use Rattle.std.specs.Prelude.{Bool, true, not, ◌&&◌, ◌||◌, List, [], ◌∷◌, ℕ, ◌+◌, ◌*◌, eqb, ltb, length}
 use Rattle.conditions.specs.Rows.{Row, first}
 use Rattle.rounding.specs.Result.{count_in_range, reading_in_range}
 use Rattle.year.specs.Setup.{both, standards_in_range, production_in_range, factors_in_range}
 use Rattle.year.specs.Replay.{short, is_tested, newest_in}
 use Rattle.year.specs.Admissible.{closed, events_full, engines_full, number_in_range, results_in_range, last_period}
 use Rattle.year.specs.Model.{Model, no_setup, of_year}
-use Rattle.reference.specs.Call.{Readings, readings_of, Call, results_of, previewed, is_setup, adds_event, of_setup, of_entry, of_query, of_engine, of_change, of_amendment, of_period, of_deletion, of_marks}
+use Rattle.reference.specs.Call.{Readings, readings_of, Call, results_of, previewed, is_setup, adds_event, of_setup, of_entry, of_query, of_engine, of_change, of_amendment, of_period, of_deletion, of_marks, of_report}
 
 -- "The reading counts differ or are not 1 to 3."
 abbrev pub counts_fit : Readings → Bool
@@ -54,6 +55,8 @@ rows size call model =
     ∷ (of_entry (of_change (of_period (of_year (λ p. last_period p || short p) model))) call, 15)
     -- The strip buffer has under 2n bytes.
     ∷ (of_query (of_marks (λ size. of_year (λ p. ltb size (2 * length p.tested)) model)) call, 16)
+    -- The page buffer has under 61 × (n + 1) bytes.
+    ∷ (of_query (of_report (λ size. of_year (λ p. ltb size (61 * (length p.tested + 1))) model)) call, 18)
     ∷ []
 
 -- the rows by which a call is refused. A preview has those of the engine's entry (document 02, W-202)

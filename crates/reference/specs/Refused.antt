@@ -1,9 +1,9 @@
 -- The refusals by name. Documents 01 and 02 know them by their numbers, as the table of `Refusals` has them.
 use Rattle.std.specs.Prelude.{◌≡◌, cond, ℕ, ◌≤◌, eqb, Result, Ok, Err}
 use Rattle.reference.specs.declared.Refusal.{Refusal}
-use Rattle.reference.specs.declared.Refusal.TheVariants.{LineTooLong, LineForm, JournalSize, ProductionRange, StandardRange, FactorRange, NotAJournal, YearClosed, EventsFull, EngineNumber, ReadingCount, ReadingRange, ResultRange, EnginesFull, NoNextPeriod, OutputSize, NothingToDelete}
+use Rattle.reference.specs.declared.Refusal.TheVariants.{LineTooLong, LineForm, JournalSize, ProductionRange, StandardRange, FactorRange, NotAJournal, YearClosed, EventsFull, EngineNumber, ReadingCount, ReadingRange, ResultRange, EnginesFull, NoNextPeriod, MarksSize, NothingToDelete, ReportSize}
 
--- document 01, "Refused calls, in checking order", 1 to 16, and 17 of document 02, W-201
+-- document 01, "Refused calls, in checking order", 1 to 16, and of document 02 17, W-201, and 18, W-205
 abbrev pub number_of : Refusal → ℕ
 number_of LineTooLong = 1
 number_of LineForm = 2
@@ -20,10 +20,11 @@ number_of ReadingRange = 12
 number_of ResultRange = 13
 number_of EnginesFull = 14
 number_of NoNextPeriod = 15
-number_of OutputSize = 16
+number_of MarksSize = 16
 number_of NothingToDelete = 17
+number_of ReportSize = 18
 
--- the refusal with a number from 1 to 17
+-- the refusal with a number from 1 to 18
 abbrev pub named : ℕ → Refusal
 named number =
     cond (eqb number 1) LineTooLong
@@ -41,7 +42,8 @@ named number =
     (cond (eqb number 13) ResultRange
     (cond (eqb number 14) EnginesFull
     (cond (eqb number 15) NoNextPeriod
-    (cond (eqb number 16) OutputSize NothingToDelete)))))))))))))))
+    (cond (eqb number 16) MarksSize
+    (cond (eqb number 17) NothingToDelete ReportSize))))))))))))))))
 
 module _ {A : Type 0} where
   -- the number of what a call or a test gives back: its refusal's, 0 for none
@@ -55,7 +57,7 @@ module _ {A : Type 0} where
 
 -- a name for each number, and a number for each name
 pub record Named : Type 0 where
-  pub number : (n : ℕ) → 1 ≤ n → n ≤ 17 → number_of (named n) ≡ n
+  pub number : (n : ℕ) → 1 ≤ n → n ≤ 18 → number_of (named n) ≡ n
   pub name : (r : Refusal) → named (number_of r) ≡ r
   pub above_0 : (r : Refusal) → 1 ≤ number_of r
-  pub at_most_17 : (r : Refusal) → number_of r ≤ 17
+  pub at_most_18 : (r : Refusal) → number_of r ≤ 18

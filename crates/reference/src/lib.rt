@@ -8,7 +8,7 @@ ghost use Rattle.reference.specs.Answers.{output_outcome_of};
 
 use year::{Event, Pair, Status};
 
-// Why a call is refused, in the order of document 01's numbers, 1 to 16; 17 is of document 02, W-201. (1 and 2 are of the key line.)
+// Why a call is refused, in the order of document 01's numbers, 1 to 16; 17 and 18 are of document 02, W-201 and W-205. (1 and 2 are of the key line.)
 #[derive(Clone, Copy, Debug, PartialEq, Eq)]
 pub enum Refusal {
     LineTooLong = 1,
@@ -26,8 +26,9 @@ pub enum Refusal {
     ResultRange,
     EnginesFull,
     NoNextPeriod,
-    OutputSize,
+    MarksSize,
     NothingToDelete,
+    ReportSize,
 }
 
 // The number by which documents 01 and 02 know it.

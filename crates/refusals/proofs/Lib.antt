@@ -1,3 +1,3 @@
 pub mod Decided
-mod Marks
+mod Outputs
 mod Open

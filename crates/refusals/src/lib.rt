@@ -6,13 +6,14 @@ ghost use Rattle.std.specs.Prelude.{◌≡◌, IfOk, Some};
 ghost use Rattle.conditions.specs.Rows.{first};
 ghost use Rattle.year.specs.Model.{NoSetup};
 ghost use Rattle.journal.specs.Read.{read_journal};
-ghost use Rattle.reference.specs.Call.{Marks, ReadStatus, Write, SetUp, Ask};
+ghost use Rattle.reference.specs.Call.{Marks, Report, ReadStatus, Write, SetUp, Ask};
 ghost use Rattle.reference.specs.Refusals.{refusal};
 ghost use Rattle.reference.specs.Refused.{refused};
 ghost use Rattle.reference.specs.Answers.{refusal_on};
 ghost use Rattle.slots.specs.Scanned.{year_of};
 ghost use Rattle.refusals.specs.Parts.{year_rows};
 
+use columns::LINE_SIZE;
 use journal::JOURNAL_SIZE;
 use progress::Progress;
 use reference::Refusal;
@@ -49,14 +50,27 @@ pub fn check_status(journal: &[u8]) -> Result<Progress, Refusal>
 }
 
 // Refusals 3, 7 and 16, for an output of this size; otherwise the year that the journal holds.
-#[tactic(auto, using(crate::proofs::Marks::marks_refused))]
+#[tactic(auto, using(crate::proofs::Outputs::marks_refused))]
 pub fn check_marks(journal: &[u8], size: usize) -> Result<Progress, Refusal>
     ensures refusal { refused result ≡ refusal_on (Ask (Write Marks size)) journal.now }
     ensures year { IfOk result (λ p. Some p ≡ year_of (read_journal journal.now)) }
 {
     let p = check_status(journal)?;
     if size < 2 * p.engines.len() {
-        return Err(Refusal::OutputSize);
+        return Err(Refusal::MarksSize);
+    }
+    Ok(p)
+}
+
+// Refusals 3, 7 and 18, for an output of this size; otherwise the year that the journal holds.
+#[tactic(auto, using(crate::proofs::Outputs::report_refused))]
+pub fn check_report(journal: &[u8], size: usize) -> Result<Progress, Refusal>
+    ensures refusal { refused result ≡ refusal_on (Ask (Write Report size)) journal.now }
+    ensures year { IfOk result (λ p. Some p ≡ year_of (read_journal journal.now)) }
+{
+    let p = check_status(journal)?;
+    if size < LINE_SIZE * (p.engines.len() + 1) {
+        return Err(Refusal::ReportSize);
     }
     Ok(p)
 }

@@ -52,7 +52,7 @@ impl Text {
     }
 
     // A space, and a number in decimal, at most 20 digits.
-    #[tactic(auto, using(crate::proofs::Decimal::spaced_decimal, crate::proofs::Decimal::few_digits))]
+    #[tactic(auto, using(crate::proofs::Decimal::spaced_decimal, ascii::proofs::Decimal::few_digits))]
     pub fn number(&mut self, n: u64)
         requires { length self.old + 21 ≤ 96 }
         ensures written { self.new ≡ self.old ++ spaced (decimal n) }

@@ -1,0 +1,153 @@
+-- The page of a year: its size, where its lines start, and that the columns of a line give back the figures of its engine.
+use mathlib.Core.Path.{◌≡◌, refl, ap, ◌∙◌}
+use mathlib.Core.Bool.{true}
+use mathlib.Core.List.{List, [], ◌∷◌, ◌++◌}
+use Prim.Native.Nat.{ℕ, zero, suc, ◌+◌, ◌*◌, ◌-◌, ◌≤◌, ◌<◌}
+use native.Mathlib.Decide.{dec_lt}
+use native.Mathlib.Omega.{arith}
+use lib.ListN.{length, get_or, take, drop, length-append, length-drop}
+use lib.Seq.{take_at, take_all, take-append-le, drop-append-le, drop-append-add, drop-append_seam, drop-cons}
+use Rattle.std.specs.Prelude.{All}
+use Rattle.std.proofs.lemmas.List.Elements.{All-tail, All-drop, All-weaker}
+use Rattle.statistics.specs.Ranges.{HistoryInRange}
+use Rattle.cumsum.specs.Intervals.{cumsum}
+use Rattle.cumsum.specs.Marks.{mark, mark_byte}
+use Rattle.year.specs.declared.Setup.{Setup}
+use Rattle.year.specs.declared.Tested.{Tested}
+use Rattle.year.specs.declared.Event.{Event}
+use Rattle.year.specs.Setup.{Pollutant, Hcnox, Co, setup_in_range}
+use Rattle.year.specs.Replay.{Progress, replay, history}
+use Rattle.year.specs.Admissible.{valid}
+use Rattle.year.proofs.Ranges.{valid-in-range}
+use Rattle.columns.specs.Columns.{Field, IsLine, Fits, line}
+use Rattle.columns.proofs.Columns.{Legible, ReadFrom, line-read, figure-read, is-line}
+use Rattle.report.specs.declared.Head.{Head}
+use Rattle.report.specs.declared.Row.{Row}
+use Rattle.report.specs.Report.{head_fields, row_fields, head_line, row_line, head_of, row_of, engine_lines, report}
+use Rattle.report.specs.Shown.{line_at, read_head, read_row, none, engine_of, figures_at, Shown, ReportShown}
+use Rattle.report.proofs.Ranges.{head-legible, Printable, row-legible, printable}
+
+-- ---- one line: it is one, and the law of a column gives back each of its fields
+
+module _ (h : Head) (a : All Legible (head_fields h)) where
+  head-is-line : IsLine (head_line h)
+  unfolding head_line
+  head-is-line = is-line (head_fields h) a (omega arith)
+
+  head-back : read_head (head_line h) ≡ h
+  unfolding head_line
+  head-back =
+      let t = line-read (head_fields h) a in
+      λ i. record { volume = figure-read h.volume t.0 i; days = figure-read h.days t.1 i; periods = figure-read h.periods t.2 i }
+
+module _ (r : Row) (a : All Legible (row_fields r)) where
+  row-is-line : IsLine (row_line r)
+  unfolding row_line
+  row-is-line = is-line (row_fields r) a (omega arith)
+
+  row-back : read_row (row_line r) ≡ r
+  unfolding row_line
+  row-back =
+      let t = line-read (row_fields r) a in
+      λ i.
+      record {
+        number = figure-read r.number t.0 i;
+        results = record { hcnox = figure-read r.results.hcnox t.1 i; co = figure-read r.results.co t.2 i };
+        cumsum = record {
+          hcnox = record { low = figure-read r.cumsum.hcnox.low t.3 i; high = figure-read r.cumsum.hcnox.high t.4 i };
+          co = record { low = figure-read r.cumsum.co.low t.5 i; high = figure-read r.cumsum.co.high t.6 i };
+        };
+        marks = record { hcnox = get_or (t.7 i) 0 0; co = get_or (t.8 i) 0 0 };
+      }
+
+-- ---- the lines of all engines, which have 61 bytes each
+
+fewer : (x : Tested) (xs : List Tested) → Printable (x ∷ xs) → Printable xs
+fewer x xs p =
+    record { numbers = All-tail _ x xs p.numbers; histories = λ q. record { few = omega (arith, (p.histories q).few); tests = (p.histories q).tests.2 } }
+
+length-row : (x : Tested) (earlier : List Tested) → Printable (x ∷ earlier) → length (row_line (row_of x earlier)) ≡ 61
+length-row x earlier p = (row-is-line (row_of x earlier) (row-legible x earlier p)).size
+
+length-lines : (xs : List Tested) → Printable xs → length (engine_lines xs) ≡ 61 * length xs
+length-lines [] p = refl
+length-lines (x ∷ xs) p =
+    omega (arith, length-append (engine_lines xs) (row_line (row_of x xs)), length-lines xs (fewer x xs p), length-row x xs p)
+
+-- the line of the newest of some engines
+abbrev newest_line : List Tested → List ℕ
+newest_line [] = []
+newest_line (x ∷ earlier) = row_line (row_of x earlier)
+
+-- where the line of the engine of index i, in order of entry, starts
+lines-at : (xs : List Tested) → Printable xs → (i : ℕ) → i < length xs → take 61 (drop (61 * i) (engine_lines xs)) ≡ newest_line (drop (length xs - suc i) xs)
+lines-at [] p i l = absurd (omega arith)
+lines-at (x ∷ xs) p i l = by (dec_lt i (length xs))
+  where
+    size : length (engine_lines xs) ≡ 61 * length xs
+    size = length-lines xs (fewer x xs p)
+
+    by : Dec (i < length xs) → take 61 (drop (61 * i) (engine_lines xs ++ row_line (row_of x xs))) ≡ newest_line (drop (length (x ∷ xs) - suc i) (x ∷ xs))
+    by (yes k) =
+        let earlier : length (x ∷ xs) - suc i ≡ suc (length xs - suc i) = omega arith in
+        rw (
+          earlier,
+          drop-append-le (61 * i) (engine_lines xs) (row_line (row_of x xs)) (omega (arith, size)),
+          take-append-le 61 (drop (61 * i) (engine_lines xs)) (row_line (row_of x xs)) (omega (arith, length-drop (61 * i) (engine_lines xs), size)),
+        ) (lines-at xs (fewer x xs p) i k)
+    by (no f) =
+        let last : i ≡ length xs = omega arith in
+        let newest : length (x ∷ xs) - suc i ≡ 0 = omega arith in
+        let place : 61 * i ≡ length (engine_lines xs) = omega (arith, size) in
+        rw (newest, place, drop-append_seam (engine_lines xs) (row_line (row_of x xs)))
+        (take_all 61 (row_line (row_of x xs)) (omega (arith, length-row x xs p)))
+
+-- ---- the page of a year
+
+module _ (p : Progress) (setup : setup_in_range p.setup ≡ true) (engines : Printable p.tested) where
+  head-is : IsLine (head_line (head_of p.setup))
+  head-is = head-is-line (head_of p.setup) (head-legible p.setup setup)
+
+  size : length (report p) ≡ 61 * (length p.tested + 1)
+  size = omega (arith, length-append (head_line (head_of p.setup)) (engine_lines p.tested), head-is.size, length-lines p.tested engines)
+
+  first-line : line_at 0 (report p) ≡ head_line (head_of p.setup)
+  first-line = take_at (head_line (head_of p.setup)) (engine_lines p.tested) 61 head-is.size
+
+  module _ (n : ℕ) (low : 1 ≤ n) (high : n ≤ length p.tested) where
+    -- engine n and those before it
+    abbrev upto : List Tested
+    upto = drop (length p.tested - n) p.tested
+
+    split : upto ≡ engine_of n p ∷ drop (suc (length p.tested - n)) p.tested
+    split = drop-cons p.tested (length p.tested - n) none (omega arith)
+
+    here : Printable upto
+    here = {!!}
+
+    line-is : line_at n (report p) ≡ newest_line upto
+    line-is = {!!}
+
+    shown-line : newest_line upto ≡ row_line (figures_at n p)
+    shown-line = rw split
+
+    legible : All Legible (row_fields (figures_at n p))
+    legible = {!!}
+
+  lines : (i : ℕ) → i ≤ length p.tested → IsLine (line_at i (report p))
+  lines zero l = rw first-line head-is
+  lines (suc i) l = rw (line-is (suc i) (omega arith) l, shown-line (suc i) (omega arith) l) (row-is-line (figures_at (suc i) p) (legible (suc i) (omega arith) l))
+
+  shown : Shown p
+  shown =
+      record {
+        size = size;
+        lines = lines;
+        head_fits = All-weaker Legible Fits (λ f a. a.fits) _ (head-legible p.setup setup);
+        engine_fits = λ n l h. All-weaker Legible Fits (λ f a. a.fits) _ (legible n l h);
+        head_read = ap read_head first-line ∙ head-back (head_of p.setup) (head-legible p.setup setup);
+        engine_read = λ n l h. ap read_row (line-is n l h ∙ shown-line n l h) ∙ row-back (figures_at n p) (legible n l h);
+      }
+
+pub report-shown : ReportShown
+report-shown = record { every = λ s es v. shown (replay s es) (valid-in-range s es v).setup (printable s es v) }

@@ -1,0 +1,3 @@
+pub mod Report
+pub mod Shown
+pub mod Cases
