@@ -1,5 +1,5 @@
 -- Columns one after another: how long they are, that each is read back from its place, and that a line of them is one.
-use mathlib.Core.Path.{◌≡◌, refl, sym, ap, ◌∙◌}
+use mathlib.Core.Path.{◌≡◌, refl, sym, ap, subst, ◌∙◌}
 use mathlib.Core.Logic.{◌≢◌}
 use mathlib.Core.Bool.{false}
 use mathlib.Core.List.{List, [], ◌∷◌, ◌++◌, append_assoc}
@@ -59,7 +59,7 @@ unpadded-solid [] s = refl
 unpadded-solid (b ∷ bs) s = rw (All-head Solid b bs s).no_space
 
 -- the law of a column: its text is read back from the place where it starts
-column-read : (front : List ℕ) (f : Field) (rest : List ℕ) → Legible f → text_at (front ++ column f.width f.text ++ rest) (length front) f.width ≡ f.text
+column-read : (front : List ℕ) (f : Field) (rest : List ℕ) → Legible f → text_at (front ++ (column f.width f.text ++ rest)) (length front) f.width ≡ f.text
 column-read front f rest l =
     let bytes = column f.width f.text in
     rw (drop-append_seam front (bytes ++ rest), take_at bytes rest f.width (length-column f l.fits))
@@ -70,19 +70,21 @@ abbrev pub ReadFrom : List ℕ → ℕ → List Field → Type 0
 ReadFrom line place [] = Unit {0}
 ReadFrom line place (f ∷ fs) = (text_at line place f.width ≡ f.text) × ReadFrom line (place + f.width) fs
 
-columns-read : (front : List ℕ) (fs : List Field) (rest : List ℕ) → All Legible fs → ReadFrom (front ++ columns fs ++ rest) (length front) fs
+columns-read : (front : List ℕ) (fs : List Field) (rest : List ℕ) → All Legible fs → ReadFrom (front ++ (columns fs ++ rest)) (length front) fs
 columns-read front [] rest a = tt
 columns-read front (f ∷ fs) rest a =
     let bytes = column f.width f.text in
     let first = All-head Legible f fs a in
+    let whole : (front ++ bytes) ++ (columns fs ++ rest) ≡ front ++ (columns (f ∷ fs) ++ rest) =
+    append_assoc front bytes (columns fs ++ rest) ∙ ap (λ (l : List ℕ). front ++ l) (sym (append_assoc bytes (columns fs) rest)) in
     let next : length (front ++ bytes) ≡ length front + f.width = omega (arith, length-append front bytes, length-column f first.fits) in (
       rw (append_assoc bytes (columns fs) rest) (column-read front f (columns fs ++ rest) first),
-      rw (append_assoc front bytes (columns fs ++ rest), ← append_assoc bytes (columns fs) rest, next) at (columns-read (front ++ bytes) fs rest (All-tail Legible f fs a)),
+      subst (λ (l : List ℕ). ReadFrom l (length front + f.width) fs) whole (rw next at (columns-read (front ++ bytes) fs rest (All-tail Legible f fs a))),
     )
 
 -- every column of a line, by that law
 pub line-read : (fs : List Field) → All Legible fs → ReadFrom (line fs) 0 fs
-line-read fs a = columns-read [] fs (spaces (60 - length (columns fs)) ++ byte "\n" ∷ []) a
+line-read fs a = rw (append_assoc (columns fs) (spaces (60 - length (columns fs))) (byte "\n" ∷ [])) (columns-read [] fs (spaces (60 - length (columns fs)) ++ byte "\n" ∷ []) a)
 
 -- a text that is a number's digits spells the number
 pub figure-read : {bytes : List ℕ} (n : ℕ) → bytes ≡ decimal n → spelt 0 bytes ≡ n
@@ -110,15 +112,12 @@ module _ (fs : List Field) (a : All Legible fs) (fit : total_width fs ≤ 60) wh
   front-size : length front ≡ 60
   front-size = simp (length-append, length-replicate) (omega (arith, length-columns fs a))
 
-  split : line fs ≡ front ++ byte "\n" ∷ []
-  split = sym (append_assoc (columns fs) (spaces (60 - length (columns fs))) (byte "\n" ∷ []))
-
   pub is-line : IsLine (line fs)
   is-line =
       record {
-        size = rw split (omega (arith, length-append front (byte "\n" ∷ []), front-size));
+        size = omega (arith, length-append front (byte "\n" ∷ []), front-size);
         unbroken = λ i l.
-            rw (split, get_or_append_left front (byte "\n" ∷ []) 0 i (omega (arith, front-size)))
+            rw (get_or_append_left front (byte "\n" ∷ []) 0 i (omega (arith, front-size)))
             (All-get_or Unbroken front i 0 (omega (arith, front-size)) (All-append Unbroken (columns fs) (spaces (60 - length (columns fs))) (unbroken-columns fs a) (unbroken-spaces _)));
-        ended = rw split (get_or_at front (byte "\n") [] 0 60 front-size);
+        ended = get_or_at front (byte "\n") [] 0 60 front-size;
       }

@@ -52,6 +52,7 @@ impl Line {
         self.bytes.try_extend_from_slice(bytes).unwrap();
     }
 
+    #[tactic(auto, using(crate::proofs::Written::front_of_spaces))]
     fn spaces(&mut self, count: usize)
         requires { length self.old + count ≤ 60 }
         ensures { self.new ≡ self.old ++ spaces count }
@@ -62,13 +63,15 @@ impl Line {
     // A text, right-aligned in a column of this width.
     fn column(&mut self, width: usize, text: &[u8])
         requires { (length text.now ≤ width) × (length self.old + width ≤ 60) }
-        ensures { self.new ≡ self.old ++ column width text.now }
+        ensures written { self.new ≡ self.old ++ column width text.now }
+        ensures size { length self.new ≡ length self.old + width }
     {
         self.spaces(width - text.len());
         self.put(text);
     }
 
     // A number that fits its column.
+    #[tactic(auto, using(ascii::proofs::Decimal::same_decimal, crate::proofs::Written::digits_fit))]
     pub fn figure(&mut self, width: usize, n: u64)
         requires fits { (1 ≤ width) × (n < 10 ^ width) }
         requires room { length self.old + width ≤ 60 }
@@ -90,9 +93,11 @@ impl Line {
     // The spaces after the columns, and the newline.
     pub fn end(&mut self)
         requires { length self.old ≤ 60 }
-        ensures { self.new ≡ self.old ++ spaces (60 - length self.old) ++ byte "\n" ∷ [] }
+        ensures written { self.new ≡ self.old ++ spaces (60 - length self.old) ++ byte "\n" ∷ [] }
+        ensures size { length self.new ≡ 61 }
     {
-        self.spaces(SPACES.len() - self.bytes.len());
+        let length = self.as_bytes().len();
+        self.spaces(SPACES.len() - length);
         self.put(b"\n");
     }
 }

@@ -12,7 +12,7 @@ use Rattle.journal.specs.Read.{read_journal}
 use Rattle.std.specs.Prelude.{Result, Ok, Err}
 use Rattle.year.specs.declared.Status.{Status}
 use Rattle.reference.specs.declared.Refusal.{Refusal}
-use Rattle.reference.specs.Call.{Form, Marks, Query, ReadStatus, Write, Preview, Call, SetUp, Enter, Ask}
+use Rattle.reference.specs.Call.{Form, Marks, Report, Query, ReadStatus, Write, Preview, Call, SetUp, Enter, Ask}
 use Rattle.reference.specs.Refusals.{refusal}
 use Rattle.reference.specs.Answers.{refusal_on, answer, out_bytes, outcome}
 use Rattle.reference.proofs.Refused.{refusal-up-to}
@@ -32,6 +32,7 @@ answer-long (Err refusal) = omega arith
 
 out-long : (form : Form) (bytes : List ℕ) → 2 ≤ length (out_reply form bytes)
 out-long Marks bytes = marks-long bytes
+out-long Report bytes = omega arith
 
 query-long : (query : Query) (journal : List ℕ) → 2 ≤ length (query_reply query journal)
 query-long ReadStatus journal = answer-long (answer (Ask ReadStatus) journal)

@@ -1,6 +1,7 @@
 pub mod Outcomes
 pub mod Cases
 pub mod Run
+pub mod NoKey
 pub mod Steps
 pub mod Session
 pub mod Preview

@@ -1,6 +1,7 @@
 pub mod Number
 pub mod KeyLine
 pub mod Reply
+pub mod NoKey
 pub mod Run
 pub mod Console
 pub mod Session

@@ -7,7 +7,7 @@ use Rattle.year.specs.declared.Status.{Status}
 use Rattle.journal.specs.Read.{read_journal}
 use Rattle.reference.specs.declared.Refusal.{Refusal}
 use Rattle.reference.specs.Refused.{number_of}
-use Rattle.reference.specs.Call.{Form, Marks, Query, ReadStatus, Write, Preview, Call, SetUp, Enter, Ask}
+use Rattle.reference.specs.Call.{Form, Marks, Report, Query, ReadStatus, Write, Preview, Call, SetUp, Enter, Ask}
 use Rattle.reference.specs.Answers.{refusal_on, if_accepted, answer, journal_after, out_bytes}
 use Rattle.protocol.specs.KeyLine.{Command, Make, Refuse, command_of}
 
@@ -24,8 +24,10 @@ abbrev pub marks_reply : List ℕ → List ℕ
 marks_reply [] = text "OK"
 marks_reply (b ∷ bs) = text "OK" ++ spaced (b ∷ bs)
 
+-- No key asks for the wall page (`NoKey`), so its reply is never given
 abbrev pub out_reply : Form → List ℕ → List ℕ
 out_reply Marks bytes = marks_reply bytes
+out_reply Report bytes = text "OK"
 
 -- "N in tenths for each pollutant ('-' for none)"
 abbrev pub size_text : Option ℕ → List ℕ

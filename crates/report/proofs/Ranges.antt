@@ -2,7 +2,7 @@
 use mathlib.Core.Path.{◌≡◌, refl}
 use mathlib.Core.Bool.{true}
 use mathlib.Core.List.{List, [], ◌∷◌}
-use Prim.Native.Nat.{ℕ, ◌*◌, ◌≤◌, ◌<◌}
+use Prim.Native.Nat.{ℕ, zero, suc, ◌*◌, ◌≤◌, ◌<◌}
 use native.Mathlib.Nat.{mul-le-mul}
 use native.Mathlib.Omega.{arith}
 use lib.ListN.{length, drop}
@@ -50,6 +50,15 @@ head-legible s h =
 pub record Printable (xs : List Tested) : Type 0 where
   pub numbers : All (λ (x : Tested). x.number ≤ 65535) xs
   pub histories : (q : Pollutant) → HistoryInRange 40 (history q xs)
+
+-- the older ones of engines in range
+pub history-drop : (q : Pollutant) (n : ℕ) (xs : List Tested) → HistoryInRange 40 (history q xs) → HistoryInRange 40 (history q (drop n xs))
+history-drop q zero xs r = r
+history-drop q (suc n) [] r = r
+history-drop q (suc n) (x ∷ xs) r = history-drop q n xs (record { few = omega (arith, r.few); tests = r.tests.2 })
+
+pub printable-drop : (n : ℕ) (xs : List Tested) → Printable xs → Printable (drop n xs)
+printable-drop n xs p = record { numbers = All-drop _ n xs p.numbers; histories = λ q. history-drop q n xs (p.histories q) }
 
 -- C of at most forty engines has at most ten digits
 pub cumsum-fits : (h : List Test) → HistoryInRange 40 h → ((cumsum 1024 h).low < 10000000000) × ((cumsum 1024 h).high < 10000000000)

@@ -8,8 +8,7 @@ use native.Mathlib.Omega.{arith}
 use lib.ListN.{length, get_or, take, drop, length-append, length-drop}
 use lib.Seq.{take_at, take_all, take-append-le, drop-append-le, drop-append-add, drop-append_seam, drop-cons}
 use Rattle.std.specs.Prelude.{All}
-use Rattle.std.proofs.lemmas.List.Elements.{All-tail, All-drop, All-weaker}
-use Rattle.statistics.specs.Ranges.{HistoryInRange}
+use Rattle.std.proofs.lemmas.List.Elements.{All-weaker}
 use Rattle.cumsum.specs.Intervals.{cumsum}
 use Rattle.cumsum.specs.Marks.{mark, mark_byte}
 use Rattle.year.specs.declared.Setup.{Setup}
@@ -25,7 +24,7 @@ use Rattle.report.specs.declared.Head.{Head}
 use Rattle.report.specs.declared.Row.{Row}
 use Rattle.report.specs.Report.{head_fields, row_fields, head_line, row_line, head_of, row_of, engine_lines, report}
 use Rattle.report.specs.Shown.{line_at, read_head, read_row, none, engine_of, figures_at, Shown, ReportShown}
-use Rattle.report.proofs.Ranges.{head-legible, Printable, row-legible, printable}
+use Rattle.report.proofs.Ranges.{head-legible, Printable, printable-drop, row-legible, printable}
 
 -- ---- one line: it is one, and the law of a column gives back each of its fields
 
@@ -63,8 +62,7 @@ module _ (r : Row) (a : All Legible (row_fields r)) where
 -- ---- the lines of all engines, which have 61 bytes each
 
 fewer : (x : Tested) (xs : List Tested) → Printable (x ∷ xs) → Printable xs
-fewer x xs p =
-    record { numbers = All-tail _ x xs p.numbers; histories = λ q. record { few = omega (arith, (p.histories q).few); tests = (p.histories q).tests.2 } }
+fewer x xs = printable-drop 1 (x ∷ xs)
 
 length-row : (x : Tested) (earlier : List Tested) → Printable (x ∷ earlier) → length (row_line (row_of x earlier)) ≡ 61
 length-row x earlier p = (row-is-line (row_of x earlier) (row-legible x earlier p)).size
@@ -78,6 +76,23 @@ length-lines (x ∷ xs) p =
 abbrev newest_line : List Tested → List ℕ
 newest_line [] = []
 newest_line (x ∷ earlier) = row_line (row_of x earlier)
+
+-- what it shows
+abbrev newest_row : Tested → List Tested → Row
+newest_row x xs =
+    record {
+      number = x.number;
+      results = x.results;
+      cumsum = record { hcnox = cumsum 1024 (history Hcnox xs); co = cumsum 1024 (history Co xs) };
+      marks = record { hcnox = mark_byte (mark 1024 (history Hcnox xs)); co = mark_byte (mark 1024 (history Co xs)) };
+    }
+
+module _ (xs : List Tested) (x : Tested) (earlier : List Tested) (e : xs ≡ x ∷ earlier) where
+  newest-shows : newest_line xs ≡ row_line (newest_row x xs)
+  newest-shows = rw e refl
+
+  newest-legible : Printable xs → All Legible (row_fields (newest_row x xs))
+  newest-legible p = rw e (row-legible x earlier (rw e at p))
 
 -- where the line of the engine of index i, in order of entry, starts
 lines-at : (xs : List Tested) → Printable xs → (i : ℕ) → i < length xs → take 61 (drop (61 * i) (engine_lines xs)) ≡ newest_line (drop (length xs - suc i) xs)
@@ -114,29 +129,35 @@ module _ (p : Progress) (setup : setup_in_range p.setup ≡ true) (engines : Pri
   first-line : line_at 0 (report p) ≡ head_line (head_of p.setup)
   first-line = take_at (head_line (head_of p.setup)) (engine_lines p.tested) 61 head-is.size
 
-  module _ (n : ℕ) (low : 1 ≤ n) (high : n ≤ length p.tested) where
-    -- engine n and those before it
+  -- the engine of index i, engine i + 1
+  module _ (i : ℕ) (l : i < length p.tested) where
+    -- with those before it
     abbrev upto : List Tested
-    upto = drop (length p.tested - n) p.tested
+    upto = drop (length p.tested - suc i) p.tested
 
-    split : upto ≡ engine_of n p ∷ drop (suc (length p.tested - n)) p.tested
-    split = drop-cons p.tested (length p.tested - n) none (omega arith)
+    split : upto ≡ engine_of (suc i) p ∷ drop (suc (length p.tested - suc i)) p.tested
+    split = drop-cons p.tested (length p.tested - suc i) none (omega arith)
 
-    here : Printable upto
-    here = {!!}
+    legible : All Legible (row_fields (figures_at (suc i) p))
+    legible = newest-legible upto (engine_of (suc i) p) _ split (printable-drop (length p.tested - suc i) p.tested engines)
 
-    line-is : line_at n (report p) ≡ newest_line upto
-    line-is = {!!}
-
-    shown-line : newest_line upto ≡ row_line (figures_at n p)
-    shown-line = rw split
-
-    legible : All Legible (row_fields (figures_at n p))
-    legible = {!!}
+    line-is : line_at (suc i) (report p) ≡ row_line (figures_at (suc i) p)
+    line-is =
+        let place : 61 * suc i ≡ length (head_line (head_of p.setup)) + 61 * i = omega (arith, head-is.size) in
+        rw (place, drop-append-add (head_line (head_of p.setup)) (engine_lines p.tested) (61 * i))
+        (lines-at p.tested engines i l ∙ newest-shows upto (engine_of (suc i) p) _ split)
 
   lines : (i : ℕ) → i ≤ length p.tested → IsLine (line_at i (report p))
   lines zero l = rw first-line head-is
-  lines (suc i) l = rw (line-is (suc i) (omega arith) l, shown-line (suc i) (omega arith) l) (row-is-line (figures_at (suc i) p) (legible (suc i) (omega arith) l))
+  lines (suc i) l = rw (line-is i (omega arith)) (row-is-line (figures_at (suc i) p) (legible i (omega arith)))
+
+  engine-fits : (n : ℕ) → 1 ≤ n → n ≤ length p.tested → All Fits (row_fields (figures_at n p))
+  engine-fits zero l h = absurd (omega arith)
+  engine-fits (suc i) l h = All-weaker Legible Fits (λ f a. a.fits) _ (legible i (omega arith))
+
+  engine-read : (n : ℕ) → 1 ≤ n → n ≤ length p.tested → read_row (line_at n (report p)) ≡ figures_at n p
+  engine-read zero l h = absurd (omega arith)
+  engine-read (suc i) l h = ap read_row (line-is i (omega arith)) ∙ row-back (figures_at (suc i) p) (legible i (omega arith))
 
   shown : Shown p
   shown =
@@ -144,9 +165,9 @@ module _ (p : Progress) (setup : setup_in_range p.setup ≡ true) (engines : Pri
         size = size;
         lines = lines;
         head_fits = All-weaker Legible Fits (λ f a. a.fits) _ (head-legible p.setup setup);
-        engine_fits = λ n l h. All-weaker Legible Fits (λ f a. a.fits) _ (legible n l h);
+        engine_fits = engine-fits;
         head_read = ap read_head first-line ∙ head-back (head_of p.setup) (head-legible p.setup setup);
-        engine_read = λ n l h. ap read_row (line-is n l h ∙ shown-line n l h) ∙ row-back (figures_at n p) (legible n l h);
+        engine_read = engine-read;
       }
 
 pub report-shown : ReportShown

@@ -34,7 +34,7 @@ read_row line =
     }
 
 -- engine n of a year in the order of entry, from 1; the newest stands first in the list. (`none` is never read.)
-abbrev none : Tested
+abbrev pub none : Tested
 none = record { number = 0; results = record { hcnox = 0; co = 0 }; standards = record { hcnox = 0; co = 0 }; period = 0 }
 
 abbrev pub engine_of : ℕ → Progress → Tested

@@ -36,7 +36,8 @@ fn head_line(h: Head) -> Line
     requires volume { h.volume < 100000000 }
     requires days { h.days < 1000 }
     requires periods { h.periods < 10 }
-    ensures { result ≡ head_line h }
+    ensures written { result ≡ head_line h }
+    ensures size { length result ≡ 61 }
 {
     let mut line = Line::new();
     line.figure(8, u64::from(h.volume));
@@ -68,7 +69,8 @@ fn row_of(x: &Tested, figures: &Pair<Running>) -> Row
 fn row_line(r: Row) -> Line
     requires hcnox { (r.cumsum.hcnox.low < 10000000000) × (r.cumsum.hcnox.high < 10000000000) }
     requires co { (r.cumsum.co.low < 10000000000) × (r.cumsum.co.high < 10000000000) }
-    ensures { result ≡ row_line r }
+    ensures written { result ≡ row_line r }
+    ensures size { length result ≡ 61 }
 {
     let mut line = Line::new();
     line.figure(5, u64::from(r.number));
