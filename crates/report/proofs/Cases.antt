@@ -1,6 +1,7 @@
 -- The worked lines and pages: each is computed.
 use mathlib.Core.Path.{refl}
 use Rattle.statistics.specs.Spread.{variation}
+use Rattle.statistics.proofs.Deviations.{deviation-none}
 use Rattle.cumsum.specs.Marks.{compared}
 use Rattle.ascii.specs.Decimal.{spelt, decimal_up_to, decimal}
 use Rattle.year.specs.Periods.{periods}
@@ -15,8 +16,8 @@ cases =
       line_of_7 = refl;
       page_of_none = refl;
       page_of_one = refl;
-      page_of_three = refl;
-      page_of_remaining = refl;
+      page_of_three = simp deviation-none;
+      page_of_remaining = simp deviation-none;
       head_read = refl;
       row_read = refl;
       second_line = refl;

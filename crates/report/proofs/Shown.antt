@@ -1,5 +1,5 @@
 -- The page of a year: its size, where its lines start, and that the columns of a line give back the figures of its engine.
-use mathlib.Core.Path.{◌≡◌, refl, ap, ◌∙◌}
+use mathlib.Core.Path.{◌≡◌, refl, sym, ap, subst, ◌∙◌}
 use mathlib.Core.Bool.{true}
 use mathlib.Core.List.{List, [], ◌∷◌, ◌++◌}
 use Prim.Native.Nat.{ℕ, zero, suc, ◌+◌, ◌*◌, ◌-◌, ◌≤◌, ◌<◌}
@@ -11,15 +11,12 @@ use Rattle.std.specs.Prelude.{All}
 use Rattle.std.proofs.lemmas.List.Elements.{All-weaker}
 use Rattle.cumsum.specs.Intervals.{cumsum}
 use Rattle.cumsum.specs.Marks.{mark, mark_byte}
-use Rattle.year.specs.declared.Setup.{Setup}
 use Rattle.year.specs.declared.Tested.{Tested}
-use Rattle.year.specs.declared.Event.{Event}
-use Rattle.year.specs.Setup.{Pollutant, Hcnox, Co, setup_in_range}
+use Rattle.year.specs.Setup.{Hcnox, Co, setup_in_range}
 use Rattle.year.specs.Replay.{Progress, replay, history}
-use Rattle.year.specs.Admissible.{valid}
 use Rattle.year.proofs.Ranges.{valid-in-range}
-use Rattle.columns.specs.Columns.{Field, IsLine, Fits, line}
-use Rattle.columns.proofs.Columns.{Legible, ReadFrom, line-read, figure-read, is-line}
+use Rattle.columns.specs.Columns.{IsLine, Fits}
+use Rattle.columns.proofs.Columns.{Legible, line-read, figure-read, is-line}
 use Rattle.report.specs.declared.Head.{Head}
 use Rattle.report.specs.declared.Row.{Row}
 use Rattle.report.specs.Report.{head_fields, row_fields, head_line, row_line, head_of, row_of, engine_lines, report}
@@ -37,7 +34,7 @@ module _ (h : Head) (a : All Legible (head_fields h)) where
   unfolding head_line
   head-back =
       let t = line-read (head_fields h) a in
-      λ i. record { volume = figure-read h.volume t.0 i; days = figure-read h.days t.1 i; periods = figure-read h.periods t.2 i }
+      λ i. record { volume = figure-read h.volume t.0 i; days = figure-read h.days t.1.0 i; periods = figure-read h.periods t.1.1.0 i }
 
 module _ (r : Row) (a : All Legible (row_fields r)) where
   row-is-line : IsLine (row_line r)
@@ -47,16 +44,19 @@ module _ (r : Row) (a : All Legible (row_fields r)) where
   row-back : read_row (row_line r) ≡ r
   unfolding row_line
   row-back =
-      let t = line-read (row_fields r) a in
+      let results = (line-read (row_fields r) a).1 in
+      let hcnox = results.1.1 in
+      let co = hcnox.1.1 in
+      let marks = co.1.1 in
       λ i.
       record {
-        number = figure-read r.number t.0 i;
-        results = record { hcnox = figure-read r.results.hcnox t.1 i; co = figure-read r.results.co t.2 i };
+        number = figure-read r.number (line-read (row_fields r) a).0 i;
+        results = record { hcnox = figure-read r.results.hcnox results.0 i; co = figure-read r.results.co results.1.0 i };
         cumsum = record {
-          hcnox = record { low = figure-read r.cumsum.hcnox.low t.3 i; high = figure-read r.cumsum.hcnox.high t.4 i };
-          co = record { low = figure-read r.cumsum.co.low t.5 i; high = figure-read r.cumsum.co.high t.6 i };
+          hcnox = record { low = figure-read r.cumsum.hcnox.low hcnox.0 i; high = figure-read r.cumsum.hcnox.high hcnox.1.0 i };
+          co = record { low = figure-read r.cumsum.co.low co.0 i; high = figure-read r.cumsum.co.high co.1.0 i };
         };
-        marks = record { hcnox = get_or (t.7 i) 0 0; co = get_or (t.8 i) 0 0 };
+        marks = record { hcnox = get_or (marks.0 i) 0 0; co = get_or (marks.1.0 i) 0 0 };
       }
 
 -- ---- the lines of all engines, which have 61 bytes each
@@ -92,25 +92,26 @@ module _ (xs : List Tested) (x : Tested) (earlier : List Tested) (e : xs ≡ x �
   newest-shows = rw e refl
 
   newest-legible : Printable xs → All Legible (row_fields (newest_row x xs))
-  newest-legible p = rw e (row-legible x earlier (rw e at p))
+  newest-legible p = subst (λ (l : List Tested). All Legible (row_fields (newest_row x l))) (sym e) (row-legible x earlier (subst Printable e p))
 
 -- where the line of the engine of index i, in order of entry, starts
 lines-at : (xs : List Tested) → Printable xs → (i : ℕ) → i < length xs → take 61 (drop (61 * i) (engine_lines xs)) ≡ newest_line (drop (length xs - suc i) xs)
 lines-at [] p i l = absurd (omega arith)
-lines-at (x ∷ xs) p i l = by (dec_lt i (length xs))
+lines-at (x ∷ xs) p i l = by (lines-at xs (fewer x xs p) i) (dec_lt i (length xs))
   where
     size : length (engine_lines xs) ≡ 61 * length xs
     size = length-lines xs (fewer x xs p)
 
-    by : Dec (i < length xs) → take 61 (drop (61 * i) (engine_lines xs ++ row_line (row_of x xs))) ≡ newest_line (drop (length (x ∷ xs) - suc i) (x ∷ xs))
-    by (yes k) =
+    by : (i < length xs → take 61 (drop (61 * i) (engine_lines xs)) ≡ newest_line (drop (length xs - suc i) xs))
+        → Dec (i < length xs) → take 61 (drop (61 * i) (engine_lines xs ++ row_line (row_of x xs))) ≡ newest_line (drop (length (x ∷ xs) - suc i) (x ∷ xs))
+    by older (yes k) =
         let earlier : length (x ∷ xs) - suc i ≡ suc (length xs - suc i) = omega arith in
         rw (
           earlier,
           drop-append-le (61 * i) (engine_lines xs) (row_line (row_of x xs)) (omega (arith, size)),
           take-append-le 61 (drop (61 * i) (engine_lines xs)) (row_line (row_of x xs)) (omega (arith, length-drop (61 * i) (engine_lines xs), size)),
-        ) (lines-at xs (fewer x xs p) i k)
-    by (no f) =
+        ) (older k)
+    by older (no f) =
         let last : i ≡ length xs = omega arith in
         let newest : length (x ∷ xs) - suc i ≡ 0 = omega arith in
         let place : 61 * i ≡ length (engine_lines xs) = omega (arith, size) in
@@ -153,7 +154,7 @@ module _ (p : Progress) (setup : setup_in_range p.setup ≡ true) (engines : Pri
 
   engine-fits : (n : ℕ) → 1 ≤ n → n ≤ length p.tested → All Fits (row_fields (figures_at n p))
   engine-fits zero l h = absurd (omega arith)
-  engine-fits (suc i) l h = All-weaker Legible Fits (λ f a. a.fits) _ (legible i (omega arith))
+  engine-fits (suc i) l h = All-weaker Legible Fits (λ f a. a.fits) (row_fields (figures_at (suc i) p)) (legible i (omega arith))
 
   engine-read : (n : ℕ) → 1 ≤ n → n ≤ length p.tested → read_row (line_at n (report p)) ≡ figures_at n p
   engine-read zero l h = absurd (omega arith)
@@ -164,7 +165,7 @@ module _ (p : Progress) (setup : setup_in_range p.setup ≡ true) (engines : Pri
       record {
         size = size;
         lines = lines;
-        head_fits = All-weaker Legible Fits (λ f a. a.fits) _ (head-legible p.setup setup);
+        head_fits = All-weaker Legible Fits (λ f a. a.fits) (head_fields (head_of p.setup)) (head-legible p.setup setup);
         engine_fits = engine-fits;
         head_read = ap read_head first-line ∙ head-back (head_of p.setup) (head-legible p.setup setup);
         engine_read = engine-read;

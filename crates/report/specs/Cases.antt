@@ -1,12 +1,11 @@
 -- Worked lines of the wall page. (`decimal n` computes through n + 1 steps, so the figures are small.) Events are listed with the newest first.
-use Rattle.std.specs.Prelude.{◌≡◌, [], ◌∷◌, ◌++◌, length}
+use Rattle.std.specs.Prelude.{◌≡◌, [], ◌∷◌, ◌++◌}
 use Rattle.ascii.specs.Text.{byte, text}
 use Rattle.year.specs.declared.Event.TheVariants.{Deletion}
 use Rattle.year.specs.Replay.{replay}
 use Rattle.year.specs.Cases.{pair, setup_of, engine}
-use Rattle.report.specs.declared.Head.{Head}
 use Rattle.report.specs.declared.Row.{Row}
-use Rattle.report.specs.Report.{head_line, row_line, head_of, row_of, report}
+use Rattle.report.specs.Report.{head_line, row_line, head_of, report}
 use Rattle.report.specs.Shown.{line_at, read_head, read_row}
 
 abbrev pub row7 : Row
