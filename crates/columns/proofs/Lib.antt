@@ -1,3 +1,3 @@
 pub mod Columns
 pub mod Cases
-mod Written
+pub mod Written

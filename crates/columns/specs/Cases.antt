@@ -2,7 +2,7 @@
 use Rattle.std.specs.Prelude.{◌≡◌, [], ◌∷◌, length}
 use Rattle.ascii.specs.Text.{byte, text}
 use Rattle.ascii.specs.Decimal.{decimal}
-use Rattle.columns.specs.Columns.{column, figure, symbol, line, text_at, figure_at}
+use Rattle.columns.specs.Columns.{column, figure, line, text_at, figure_at}
 
 pub record Cases : Type 0 where
   -- right-aligned, also 0; a figure may fill its column, and an empty column is spaces

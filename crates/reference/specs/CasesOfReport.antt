@@ -1,6 +1,5 @@
 -- Worked cases of the wall page's call (document 02, W-205): refusal 18 and what it leaves, and what an accepted call writes. Events are listed with the newest first.
-use Rattle.std.specs.Prelude.{◌≡◌, [], ◌∷◌, ◌++◌, ℕ, replicate}
-use Rattle.buffers.specs.Bytes.{zeros}
+use Rattle.std.specs.Prelude.{◌≡◌, [], ◌∷◌, ◌++◌, replicate}
 use Rattle.year.specs.declared.Event.TheVariants.{Declaration}
 use Rattle.year.specs.Replay.{replay}
 use Rattle.year.specs.Model.{NoSetup, Year}

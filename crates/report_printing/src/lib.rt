@@ -1,7 +1,7 @@
 // The wall page ("report") of a year, written into a lent buffer (document 02, W-205).
 #![tactic(auto)]
 
-ghost use Rattle.std.specs.Prelude.{◌≡◌, List, ◌∷◌, ◌+◌, ◌*◌, ◌≤◌, ◌<◌, length, reverse};
+ghost use Rattle.std.specs.Prelude.{◌≡◌, true, List, ◌∷◌, ◌+◌, ◌*◌, ◌≤◌, ◌<◌, length, reverse};
 ghost use Rattle.buffers.specs.Bytes.{put};
 ghost use Rattle.statistics.specs.Ranges.{HistoryInRange};
 ghost use Rattle.figures.specs.Running.{running};
@@ -48,6 +48,7 @@ fn head_line(h: Head) -> Line
 }
 
 // What the line of an engine shows, from the figures at that engine.
+#[tactic(auto, using(crate::proofs::Lines::row_is))]
 fn row_of(x: &Tested, figures: &Pair<Running>) -> Row
     ensures { (earlier : List Tested) → figures.now.hcnox ≡ running 1024 (history Hcnox (x.now ∷ earlier)) → figures.now.co ≡ running 1024 (history Co (x.now ∷ earlier)) → result ≡ row_of x.now earlier }
 {
