@@ -1,12 +1,16 @@
 -- What status and the calls that write an output promise if they are accepted, from what their bodies have computed.
-use mathlib.Core.Path.{◌≡◌, sym, ap, ◌∙◌}
+use mathlib.Core.Path.{◌≡◌, sym, ap, subst, ◌∙◌}
+use mathlib.Core.Bool.{true}
 use mathlib.Core.List.{List, map}
 use Prim.Native.Nat.{ℕ, ◌+◌, ◌*◌, ◌≤◌}
 use lib.ListN.{length}
 use Rattle.buffers.specs.Bytes.{put}
+use Rattle.year.specs.Setup.{setup_in_range}
 use Rattle.year.specs.Status.{status}
 use Rattle.year.specs.Replay.{Progress}
+use Rattle.year.proofs.Ranges.{valid-in-range}
 use Rattle.journal.specs.Read.{read_journal}
+use Rattle.journal.proofs.OneJournal.{demand}
 use Rattle.std.specs.Prelude.{Some, Result, Ok, Err, IsErrAnd}
 use Rattle.reference.specs.declared.Refusal.{Refusal}
 use Rattle.reference.specs.Refused.{number_of, named}
@@ -26,6 +30,13 @@ status_answer journal p holds none =
     let year = stands (read_journal journal) p holds in
     ap Ok (ap (status 1024) year.year ∙ sym (ap status_of year.holds))
     ∙ sym (accepted-answer (Ask ReadStatus) journal (sym none) ∙ ap (λ b. Ok (status_of (read_journal b))) (demand-1.query_kept ReadStatus journal))
+
+-- the setup of a year that a journal holds is in range
+pub year_setup : (journal : List ℕ) (p : Progress) → Some p ≡ year_of (read_journal journal) → setup_in_range p.setup ≡ true
+year_setup journal p holds =
+    let year = stands (read_journal journal) p holds in
+    let valid = (demand.accepted journal year.setup year.events year.holds).valid in
+    subst (λ (q : Progress). setup_in_range q.setup ≡ true) (sym year.year) (valid-in-range year.setup year.events valid).setup
 
 -- what a call that writes an output promises about its answer and the output
 module _ (form : Form) (journal out : List ℕ) where

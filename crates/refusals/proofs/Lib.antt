@@ -1,3 +1,3 @@
 pub mod Decided
-mod Outputs
+pub mod Outputs
 mod Open
