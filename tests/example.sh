@@ -1,6 +1,6 @@
 #!/usr/bin/env bash
 # The library from other languages: every name of its header, in C and in C++; and the examples. The calculators in C and Rust print the stored outputs of the tested
-# runs, and nothing for empty input; the figures of the worked years are the stored ones, also from a journal's file.
+# runs, and nothing for empty input; the figures of the worked years are the stored ones, also from a journal's file, and so are their wall pages.
 set -euo pipefail
 cd "$(dirname "$0")/.."
 library=crates/plt/out/libplt.a
@@ -46,4 +46,25 @@ target/figures <crates/calculator/stdin >/dev/full 2>target/message || status=$?
 status=0
 target/figures --all 2>target/message || status=$?
 [ "$status" -eq 2 ]
-echo "the examples print what is stored: in C and Rust the tested runs, in C the figures of the worked years"
+
+cc -std=c11 $strict examples/report.c "$library" -o target/report
+target/report <examples/wall_page.txt | cmp - examples/wall_page.page.txt
+# The pages of all worked years, in the order of tests/years.sh; of each, the refused lines are told.
+eval "$(sed -n '/^others=/,/"$/p' tests/years.sh)"
+for year in year $others; do
+    target/report <"examples/$year.txt" 2>target/message
+    awk '/^NO/ { print "report: line " NR ": " $0 }' "examples/$year.replies.txt" | cmp - target/message >&2
+done | cmp - tests/pages.txt
+# The refused line of document 01's year. No setup; no room for the output.
+target/report <examples/year.txt 2>target/message >target/page
+[ "$(cat target/message)" = "report: line 7: NO 8" ]
+status=0
+target/report </dev/null >target/page 2>target/message || status=$?
+[ "$status" -eq 1 ]
+grep -q '^report: no setup' target/message
+[ ! -s target/page ]
+status=0
+target/report <examples/wall_page.txt >/dev/full 2>target/message || status=$?
+[ "$status" -eq 1 ]
+grep -q '^report: the output cannot be written' target/message
+echo "the examples print what is stored: in C and Rust the tested runs, in C the figures and the wall pages of the worked years"

@@ -1,5 +1,5 @@
-/* Every function and every name of include/plt.h, and what it says of strikes and asks. The figures are those of document 01's undecided mark: T 800, X 998 then 1,071;
-   CO 5,000 twice under 6,100. */
+/* Every function and every name of include/plt.h, and what it says of strikes, asks and the wall page. The figures are those of document 01's undecided mark:
+   T 800, X 998 then 1,071; CO 5,000 twice under 6,100. */
 #include "plt.h"
 #include <stdio.h>
 #include <string.h>
@@ -246,10 +246,65 @@ static void asks(void) {
     asks_refused();
 }
 
+static uint8_t page[PLT_REPORT_SIZE + PLT_REPORT_LINE_SIZE];
+
+/* The wall page of the journal's first `size` bytes, into the first `room` bytes of an array of sevens: what is returned, and that neither the bytes behind the
+   page nor the journal are written. Returns how many bytes are. */
+static size_t reported(size_t size, size_t room, uint8_t expected) {
+    uint8_t before[PLT_JOURNAL_SIZE];
+    size_t written = 9;
+    memcpy(before, journal, sizeof before);
+    memset(page, 7, sizeof page);
+    same("what a page returns", plt_report(journal, size, page, room, &written), expected);
+    same("a page changes the journal", memcmp(journal, before, sizeof before) != 0, 0);
+    for (size_t i = written; i < sizeof page; i++) {
+        same("a byte behind the page", page[i], 7);
+    }
+    return written;
+}
+
+/* Into as many bytes as the page needs, one less, and more. */
+static void paged(size_t engines, const char *text) {
+    size_t room = PLT_REPORT_LINE_SIZE * (engines + 1);
+    same("a page in one byte less", reported(sizeof journal, room - 1, PLT_REFUSED_REPORT_SIZE), 0);
+    same("a page in none", reported(sizeof journal, 0, PLT_REFUSED_REPORT_SIZE), 0);
+    same("a page in more", reported(sizeof journal, sizeof page, PLT_ACCEPTED), room);
+    same("a page in its size", reported(sizeof journal, room, PLT_ACCEPTED), room);
+    same("the page", memcmp(page, text, strlen(text)) != 0, 0);
+    for (size_t line = 0; line <= engines; line++) {
+        same("a newline within a line", memchr(page + PLT_REPORT_LINE_SIZE * line, '\n', PLT_REPORT_LINE_SIZE - 1) != NULL, 0);
+        same("the end of a line", page[PLT_REPORT_LINE_SIZE * line + PLT_REPORT_LINE_SIZE - 1], '\n');
+    }
+}
+
+#define REPORT_HEAD "    50003654                                                \n"
+
+static void reports(void) {
+    keyed(SETUP "\n", 0, 0);
+    paged(0, REPORT_HEAD);
+    keyed(SETUP "\nE 1 998000 5000000\nE 2 1071000 5000000\n", 0, 0);
+    paged(2, REPORT_HEAD
+        "    1  998 5000         0         0         0         0--   \n"
+        "    2 1071 5000   1057158   1057159         0         0?U   \n");
+    same("a page of a short journal", reported(sizeof journal - 1, sizeof page, PLT_REFUSED_JOURNAL_SIZE), 0);
+    keyed(SETUP "\nE 1 998000 5000000\nE 2 1071000 5000000\nE 65535 900000 4000000\nZ\nX\n", 0, 0);
+    paged(2, REPORT_HEAD
+        "    1  998 5000         0         0         0         0--   \n"
+        "    2 1071 5000   1057158   1057159         0         0?U   \n");
+    keyed(SETUP "\n", 40, 0);
+    paged(40, REPORT_HEAD "   40  800 5000         0         0         0         0--   \n   39  800 5000         0         0         0         0UU   \n");
+    same("the largest page", reported(sizeof journal, PLT_REPORT_SIZE, PLT_ACCEPTED), PLT_REPORT_SIZE);
+    memset(journal, 0, sizeof journal);
+    same("a page before a setup", reported(sizeof journal, sizeof page, PLT_REFUSED_JOURNAL), 0);
+    same("a page before a setup in none", reported(sizeof journal, 0, PLT_REFUSED_JOURNAL), 0);
+    same("a page of no journal", reported(0, 0, PLT_REFUSED_JOURNAL_SIZE), 0);
+}
+
 int main(void) {
     calls();
     strikes();
     asks();
+    reports();
     refusals();
     verdicts();
     printf(failures ? "the header and the library differ\n" : "every name of the header means what the library does\n");

@@ -1,5 +1,5 @@
 #!/usr/bin/env python3
-"""Input and expected output of the test program call_lists, from document 01 and W-201, W-202 and W-204 of document 02 alone (tools/model.py).
+"""Input and expected output of the test program call_lists, from document 01 and W-201, W-202, W-204 and W-205 of document 02 alone (tools/model.py).
 
 Run from the repository's root, it writes crates/call_lists/stdin and crates/call_lists/stdout. It shares nothing with the calculator.
 
@@ -13,10 +13,13 @@ The input has one call to a line: a letter, then decimal numbers, each after one
   T number a b r.. r..        ask: what that engine would be answered, and nothing is written
   A t1 t2   P   X   Z   Q     amendment, next period, declaration, strike, status
   L size                      the strip, into the first `size` bytes of an array of 100 that are all '.' before
+  G size                      the wall page, into the first `size` bytes of an array of 2,600 that are all '.' before
 It prints a line for each of S E T A P X Z Q:
   refusal n verdict, then S s e Clow Chigh Hlow Hhigh N mark of HC+NOx and of CO, then a digest of all 560 bytes;
-and for L:
-  refusal length |the array of 100| refusal |the part handed back| digest of the 100 bytes after that second call, digest of the 560 bytes.
+for L:
+  refusal length |the array of 100| refusal |the part handed back| digest of the 100 bytes after that second call, digest of the 560 bytes;
+and for G:
+  refusal length digest of the 2,600 bytes, then of a second call refusal, length and digest of the part handed back, digest of the 2,600 bytes and of the 560.
 
 Each answer is computed twice: as the first, in checking order, of all refusals that hold, and from the plain year of the calls (their arguments alone).
 Each strip is computed a second time, from fractions, and compared with work at m = 2 and 8, which must be as demand 3 says. The status and strip of a book with
@@ -24,25 +27,33 @@ strikes are computed a second time from its events without these and the engines
 Each ask is answered a second time by entering its engine on the book read anew; one right before its engine must have that engine's answer; and with all asks
 taken out, the lines must give the same other answers and leave the same array.
 Where verdict 1, 3 or 4 is answered, the engines and those that pass are counted a second time, from the events.
+Each wall page is read back by position and compared with the setup, the events, the strip, and the statuses after each engine that remains. Wherever a strip is
+asked for, two pages are too, into a size that is enough and into one that is not.
 Counts of what occurred go to standard error; the script fails if a refusal, a verdict, a mark, a strike after an engine, an amendment or a strike, a book of
 either version, a pair of refusals that can hold at once (of which the first must be given), an ask of any answer right before its
-engine, or a verdict 1, 3 or 4 that failing engines bring about or leave never occurred.
+engine, a verdict 1, 3 or 4 that failing engines bring about or leave, a page of any number of engines, of a year with strikes or one that is closed, a size next to
+what a page takes, or a column as full as it can be never occurred.
 """
 import copy
 import random
 import sys
 from collections import Counter
 from itertools import combinations
+from math import isqrt
 from damaged_journals import literal_marks
-from model import K, MAX_ENGINES, MAX_EVENTS, SIZE, Pollutant, Year, encode, factor_ok, first_refusal, read, result_of, round_even, self_check, standard_ok, version
+from model import (K, LINE, MAX_ENGINES, MAX_EVENTS, SIZE, Pollutant, Year, encode, factor_ok, first_refusal, page, page_size, read, result_of, round_even,
+                   self_check, standard_ok, version)
 
-ARRAY, STRIP = 560, 100
+ARRAY, STRIP, PAGE = 560, 100, 2600
+# The columns of the wall page's lines: what they hold, and their widths.
+HEAD_LINE = (('P', 8), ('D', 3), ('periods', 1))
+ENGINE_LINE = (('number', 5), ('hcnox', 5), ('co', 5), ('C', 10), ('C', 10), ('C', 10), ('C', 10), ('mark', 1), ('mark', 1))
 MOST_LINES = 40000      # so many the test program reads
 MODULUS = 4294967291
 TOP = 4294967295        # the largest argument
 # The refusals that each call can give, in checking order.
 ROWS = {'S': (3, 4, 5, 6), 'E': (3, 7, 8, 9, 10, 11, 12, 13, 14), 'A': (3, 5, 7, 8, 9), 'P': (3, 7, 8, 9, 15),
-        'X': (3, 7, 8, 9), 'Z': (3, 7, 8, 9, 17), 'Q': (3, 7), 'L': (3, 7, 16)}
+        'X': (3, 7, 8, 9), 'Z': (3, 7, 8, 9, 17), 'Q': (3, 7), 'L': (3, 7, 16), 'G': (3, 7, 18)}
 ROWS['T'] = ROWS['E']   # an ask is refused as its engine is
 
 # ------------------------------------------------------------- the answers
@@ -177,6 +188,7 @@ def rows_that_hold(letter, args, lent, accepted, year):
         row(14, year.n() == MAX_ENGINES)
         row(15, year.period == year.periods or year.short())
         row(16, letter == 'L' and args[0] < 2 * year.n())
+        row(18, letter == 'G' and args[0] < page_size(year.n()))
     return held
 
 
@@ -187,6 +199,17 @@ def event_of(letter, args, setup):
         count = len(hcnox) if len(hcnox) == len(co) else 0
         return ('E', number, count) + results_of(setup, hcnox, co)
     return {'A': ('A',) + args, 'P': ('P',), 'X': ('D',), 'Z': ('Z',)}[letter]
+
+
+def statuses_after(setup, events):
+    """What the line of each engine shows, of events without strikes: its number and results, and C and the marks of the status after it."""
+    year, found = Year(setup), []
+    for ev in events:
+        assert year.enter(ev) == 0
+        if ev[0] == 'E':
+            of_hcnox, of_co = figures(year.h), figures(year.c)
+            found.append([ev[1], ev[3], ev[4]] + of_hcnox[3:5] + of_co[3:5] + [of_hcnox[-1], of_co[-1]])
+    return found
 
 
 class Lists:
@@ -200,7 +223,9 @@ class Lists:
         self.strips, self.settled = Counter(), Counter()
         self.struck_after, self.versions = Counter(), Counter()
         self.percents = Counter()           # verdicts 1, 3 and 4, whether all, some or no engines pass, and whether n is at least one percent
+        self.pages, self.columns, self.spare = Counter(), Counter(), Counter()  # pages by engines, figures by their width, bytes lent beyond those of a page
         self.asking, self.chance = 0, random.Random(202)    # the share of engines that put asks about before it enters them
+        self.sizes, self.read_back = random.Random(205), None
 
     def book(self):
         got = read(bytes(self.array[:self.lent]))
@@ -243,8 +268,8 @@ class Lists:
             self.versions[self.array[3], refusal == 0] += 1
         for later in held - {refusal}:
             self.pairs[letter, (refusal, later)] += 1
-        if letter == 'L':
-            self.strip(args[0], refusal, year)
+        if letter in 'LG':
+            {'L': self.strip, 'G': self.page}[letter](args[0], refusal, year)
             return refusal
         before = bytes(self.array)
         asked = self.asked(args, refusal, year) if letter == 'T' and year is not None else None
@@ -336,6 +361,44 @@ class Lists:
         self.output.append('%d %d |%s| %d |%s| %d %d' % (refusal, len(marks), whole, refusal, marks,
                                                         digest(whole.encode()), digest(self.array)))
 
+    def page(self, size, refusal, year):
+        assert size <= PAGE
+        text = '' if refusal else page(year)
+        if refusal not in (3, 7):
+            self.spare[max(-2, min(2, size - page_size(year.n())))] += 1
+        if not refusal:
+            self.look_at_page(text, year)
+        assert len(text) <= size
+        whole = digest((text + '.' * (PAGE - len(text))).encode())
+        self.output.append(' '.join(str(x) for x in (refusal, len(text), whole, refusal, len(text), digest(text.encode()), whole, digest(self.array))))
+
+    def look_at_page(self, text, year):
+        """Each page once, if the same one is written again before another: its lines, and what stands in their columns."""
+        struck, end = version(year.events) == 2, year.verdict() if year.verdict() in (6, 7) else 'open'
+        self.pages[year.n(), 'struck' if struck else 'unstruck', end] += 1
+        if self.read_back == (text, year.setup, year.events):
+            return
+        self.read_back = text, year.setup, year.events
+        *lines, rest = text.split('\n')
+        assert rest == '' and len(lines) == 1 + year.n() and all(len(line) == 60 for line in lines) and len(text) == page_size(year.n())
+        P, D = year.setup[:2]
+        assert self.read_columns(lines[0], HEAD_LINE) == [P, D, 1 if P < 1600 else 1 + (D > 120) + (D > 210) + (D > 300)]
+        engines = [self.read_columns(line, ENGINE_LINE) for line in lines[1:]]
+        assert engines == statuses_after(year.setup, remaining(year.events))
+        assert ''.join(a + b for *_, a, b in engines) == strip_of(year)
+
+    def read_columns(self, line, columns):
+        """What stands in the columns of a line: numbers without a leading zero, and marks. All behind them is spaces."""
+        found, at = [], 0
+        for name, width in columns:
+            text = line[at:at + width]
+            at += width
+            found.append(text if name == 'mark' else int(text))
+            assert text == str(found[-1]).rjust(width)
+            self.columns[name, len(text.strip())] += 1
+        assert line[at:] == ' ' * (60 - at)
+        return found
+
     # The lines, with the refusal that is expected; None for any.
 
     def put(self, want, letter, *numbers):
@@ -343,7 +406,17 @@ class Lists:
             self.put(want, 'T', *numbers)
         refusal = self.say(' '.join([letter] + [str(x) for x in numbers]))
         assert want is None or refusal == want, (letter, numbers, refusal, want)
+        if letter == 'L':
+            self.two_pages(refusal)
         return refusal
+
+    def two_pages(self, refusal):
+        """The page, into a size that is enough and into one that is not: refused as the strip is by 3 and 7, and otherwise by 18 if the size is not enough."""
+        year, draw = self.book() or self.plain, self.sizes
+        room = page_size(year.n() if year else 0)
+        for size in (draw.choice((room, room, room, room + 1, page_size(MAX_ENGINES), PAGE, draw.randrange(room, PAGE + 1))),
+                     draw.choice((room - 1, room - 1, room - 1, room - 2, room - LINE, 0, draw.randrange(room)))):
+            self.put(refusal if refusal in (3, 7) else 18 if size < room else 0, 'G', size)
 
     def title(self, *texts):
         for text in texts:
@@ -381,6 +454,9 @@ class Lists:
 
     def L(self, size, want=0):
         return self.put(want, 'L', size)
+
+    def G(self, size, want=0):
+        return self.put(want, 'G', size)
 
     def B(self, n):
         self.put(None, 'B', n)
@@ -1721,6 +1797,106 @@ def failing_thirty(o):
         o.engines(1, [20000] + [1001] * 28), o.Q(verdict=verdict), o.L(58)
         o.engines(30, [1001]), o.Q(verdict=3), o.Z(), o.Q(verdict=verdict), o.engines(30, [1000] * 11), o.Q(verdict=3), o.L(80)
 
+# -------------------------------------- the wall page (document 02, W-205)
+
+
+def wall_pages(o):
+    o.title('the wall page', 'the whole run of document 01: after each entry into each size about that of the page, and into the sizes at the ends')
+    o.S(5000, 365, 800, 6100)
+    for n in range(4):
+        if n:
+            o.E(n, (998000, 1071000, 900000)[n - 1], 5000000)
+        room = page_size(n)
+        for size in sorted({0, 1, LINE - 1, LINE, LINE + 1, room - LINE, room - 1, room, room + 1, room + LINE - 1, room + LINE, page_size(MAX_ENGINES), PAGE}):
+            o.G(size, want=0 if room <= size else 18)
+    o.title('refused before it', 'a buffer of another size by 3, no setup and a damaged book by 7; 8 is not for a page: declared and failed years have theirs')
+    for size, lent in ((size, lent) for size in (0, 243, 244, PAGE) for lent in (0, 543, 545, 560)):
+        o.B(lent), o.G(size, want=3)
+    o.B(544), o.W(24, 4)
+    for size in (0, 243, 244, PAGE):
+        o.G(size, want=7)
+    o.W(24, 3), o.X(), o.G(244), o.G(243, want=18), o.N()
+    for size in (0, LINE - 1, LINE, PAGE):
+        o.G(size, want=7)
+    o.S(5000, 365, 100, 6100), o.X(), o.G(LINE), o.G(LINE - 1, want=18)
+    o.S(5000, 365, 100, 6100), o.engines(1, [500] * 3), o.Q(verdict=6), o.G(244), o.G(243, want=18)
+    columns_full(o)
+    pages_of_forty(o)
+    pages_struck(o)
+
+
+def columns_full(o):
+    o.title('columns that touch', 'P, D, numbers and results as wide as their columns, and as narrow; C of one digit, of two and of more, up to nine')
+    for p, d in ((99999999, 366), (10000000, 100), (9999999, 99), (1, 1), (1600, 121), (1599, 366)):
+        o.S(p, d, 20000, 20000, 1, 1000, 1, 1000)
+        o.G(LINE), o.engines(65535, [20000], 20000), o.engines(9999, [9999], 10000), o.engines(1, [0], 0), o.G(page_size(3)), o.G(PAGE)
+    o.title('two engines and C of one digit to eight, for HC+NOx and for CO', 'then results 0 and 20,000 under 10, and C of nine digits')
+    for results in second_engines():
+        for hcnox, co in ((results, [6000, 6000]), ([6000, 6001], results)):
+            o.S(5000, 365, 6000, 6000)
+            o.engines(10000, hcnox, co), o.G(page_size(2))
+    o.S(99999999, 366, 10, 10)
+    for j, x in enumerate(widest_year()):
+        o.engines(65500 + j, [x], x), o.G(page_size(j + 1)), o.L(2 * j + 2)
+    o.title('C that is 0 again, and C whose ends differ')
+    o.S(5000, 365, 1000, 6100)
+    for j, x in enumerate((1000, 1003, 1001, 0, 1002, 1500, 990, 1003)):
+        o.E(j + 1, 1000 * x, 1000 * (6090 + 7 * j)), o.G(page_size(j + 1))
+
+
+def second_engines():
+    """For each number of digits from 1 to 8, the results of two engines under 6,000 after which C low is above 0 and has so many digits."""
+    found = {}
+    for above in range(1, 2500):
+        for apart in (0, isqrt(32 * above * above)):    # apart by a little less than the root of 32 times as much, so that s is nearly 4,096 times as much
+            p, results = Pollutant(), [6000 + above - apart, 6000 + above]
+            for x in results:
+                p.engine(x, 6000)
+            if apart <= 6000 + above and p.c_low:
+                found.setdefault(len(str(p.c_low)), results)
+    assert set(found) == set(range(1, 9))
+    return found.values()
+
+
+def widest_year():
+    """Results 0 and 20,000 under 10: each next one is that of the two after which C is higher, and no more once both fail the family."""
+    year, results = Year((99999999, 366, 10, 10, 0, 0, 0, 0)), []
+    while True:
+        tried = [(year.ask(('E', len(results) + 1, 1, x, x))[1], x) for x in (0, 20000)]
+        open_years = [(asked.h.c_low, x, asked) for asked, x in tried if not asked.closed()]
+        if not open_years:
+            return results
+        _, x, year = max(open_years, key=lambda one: one[:2])
+        results.append(x)
+
+
+def pages_of_forty(o):
+    o.title('forty engines', 'a page of 2,501 bytes; results by turns far apart, equal, and rising; the figures are those at each engine')
+    for results, co in (([0, 20000] * 20, [20000, 0] * 20), ([9000] * 40, [6100] * 40),
+                        ([700 + 37 * j % 151 for j in range(40)], [6000 + 5 * j for j in range(40)])):
+        o.S(99999999, 366, 9000, 7000)
+        for j in range(40):
+            o.engines(j + 1, results[j:j + 1], co[j:j + 1]), o.G(page_size(j + 1))
+        for size, want in ((2501, 0), (2500, 18), (PAGE, 0), (2502, 0), (2440, 18), (LINE, 18), (0, 18)):
+            o.G(size, want=want)
+    o.P(), o.G(2501), o.A(10, 10), o.G(2501), o.X(), o.G(2501), o.G(2500, want=18)
+
+
+def pages_struck(o):
+    o.title('struck engines have no line', 'a page after each strike, and after each engine in its place; amendments between; periods')
+    o.S(12000000, 200, 10000, 12000)
+    o.G(LINE), o.E(10001, 10198000, 12001000), o.G(122), o.Z(), o.G(LINE), o.G(LINE - 1, want=18), o.Z(want=17), o.G(LINE)
+    o.E(10001, 10198000, 12001000), o.E(10002, 10271000, 12001000), o.E(10003, 19000000, 1000), o.G(244), o.G(243, want=18)
+    o.Z(), o.G(183), o.G(182, want=18), o.A(9000, 12000), o.G(183), o.E(10003, 9990000, 12003000), o.G(244), o.Z(), o.Z(), o.G(122), o.G(121, want=18)
+    o.A(10000, 12000), o.E(9, 10271000, 12001000), o.P(), o.Z(want=17), o.G(183), o.E(10, 1, 1), o.G(244), o.Z(), o.G(183), o.E(10, 2, 2), o.X(), o.G(244)
+    o.title('forty engines, the newest struck one by one while slots last, and others in their place')
+    o.S(99999999, 366, 20000, 20000)
+    o.engines(101, [20000 * (j % 2) for j in range(40)], [20000 - 500 * j for j in range(40)])
+    for j in range(10):
+        o.Z(), o.G(page_size(39 - j)), o.G(page_size(39 - j) - 1, want=18)
+    o.engines(60001, [19999 - j for j in range(10)], [9999 + j for j in range(10)]), o.G(2501), o.G(2500, want=18)
+    o.Z(), o.G(2440), o.E(7, 0, 20000000), o.G(2501)
+
 # -------------------------------------------------------------- the counts
 
 
@@ -1764,7 +1940,7 @@ def counts(o):
         assert all(pairs.values())
     assert sum(o.refusals[letter, row] for letter, rows in ROWS.items() for row in (0,) + rows) == sum(by_number.values())
     tell('verdicts', dict(sorted(o.verdicts.items())))
-    assert set(o.verdicts) == set(range(8)) and set(by_number) == {0} | set(range(3, 18))
+    assert set(o.verdicts) == set(range(8)) and set(by_number) == {0} | set(range(3, 19))
     tell('events before a newest strike', dict(o.struck_after), 'calls on books of each version, accepted or not', dict(o.versions))
     assert set(o.struck_after) == set('EAZ') and set(o.versions) == {(1, True), (1, False), (2, True), (2, False)}
     tell('newest marks of a status', dict(o.marks), 'marks of strips', dict(o.strips))
@@ -1773,9 +1949,26 @@ def counts(o):
     assert all(o.settled.values())
     tell('verdicts 1, 3 and 4, how many engines pass, n at least one percent', dict(sorted(o.percents.items())))
     assert {(verdict, passing, True) for verdict in (1, 3, 4) for passing in ('some', 'none')} <= set(o.percents) and (4, 'all', True) in o.percents
+    counts_of_pages(o, tell)
     met = check_asks(o)
     tell('refusal and verdict of asks right before their engines', dict(sorted(met.items())))
     assert set(met) == {(0, verdict) for verdict in range(7)} | {(refusal, 0) for refusal in ROWS['T']}
+
+
+def counts_of_pages(o, tell):
+    def of(place):
+        return {key: sum(count for one, count in o.pages.items() if one[place] == key) for key in sorted({one[place] for one in o.pages}, key=str)}
+
+    tell('pages by engines', of(0), 'strikes', of(1), 'closed by', of(2))
+    assert set(of(0)) == set(range(MAX_ENGINES + 1)) and set(of(1)) == {'struck', 'unstruck'} and set(of(2)) == {'open', 6, 7}
+    assert {(n, 'struck') for n in (0, 1, MAX_ENGINES)} <= {one[:2] for one in o.pages}
+    tell('bytes lent beyond those of a page, from two less to two more', dict(sorted(o.spare.items())))
+    assert set(o.spare) == set(range(-2, 3))
+    tell('columns by the width of what stands in them', dict(sorted(o.columns.items())))
+    # a pollutant that is over the action limit at two engines in a row ends the year, so C stays below ten digits
+    assert all(o.columns[name, width] for name, least, most in (('P', 1, 8), ('D', 1, 3), ('number', 1, 5), ('hcnox', 1, 5), ('co', 1, 5), ('C', 1, 9))
+               for width in (least, most))
+    assert not o.columns['C', 10]
 
 
 def main():
@@ -1783,9 +1976,9 @@ def main():
     o = Lists()
     for section in (whole_run, starred, slips, verdicts, before_setup, alone, at_once, ranges, largest, damaged, by_hand, mid_year, random_lists,
                     strikes, strikes_and_amendments, strikes_in_periods, verdicts_struck, full_of_strikes, strikes_refused, struck_books, struck_by_hand,
-                    struck_lists, asks, asked_lists, failing):
+                    struck_lists, asks, asked_lists, failing, wall_pages):
         at = len(o.input)
-        o.asking = 0 if section is asks else 0.25 if section in (random_lists, struck_lists) else 1
+        o.asking = 0 if section in (asks, wall_pages) else 0.25 if section in (random_lists, struck_lists) else 1
         section(o)
         print('%-22s %5d lines' % (section.__name__, len(o.input) - at), file=sys.stderr)
     counts(o)

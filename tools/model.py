@@ -1,5 +1,5 @@
-"""Reference model of document 01, and of W-201, W-202 and W-204 in document 02, from these alone: readings and results, figures, marks, sample size, verdict,
-refusals of entries, what an ask tells, the 544-byte book.
+"""Reference model of document 01, and of W-201, W-202, W-204 and W-205 in document 02, from these alone: readings and results, figures, marks, sample size,
+verdict, refusals of entries, what an ask tells, the 544-byte book, the wall page.
 
 It shares nothing with the calculator. The tools beside it make the test programs' input and expected output from it.
 Events are tuples: ('E', number, readings, hcnox, co), ('A', hcnox, co), ('P',), ('D',) for a declaration, ('Z',) for a strike.
@@ -15,8 +15,8 @@ K = 1024
 T95 = [631, 292, 235, 213, 202, 194, 190, 186, 183, 181, 180, 178, 177, 176, 175,
        175, 174, 173, 173, 172, 172, 172, 171, 171, 171, 171, 170, 170, 170]
 assert len(T95) == 29
-# The refusals in checking order: 17 of document 02 is checked after 9.
-ORDER = (1, 2, 3, 4, 5, 6, 7, 8, 9, 17, 10, 11, 12, 13, 14, 15, 16)
+# The refusals in checking order, those of document 02 among them: 17 is checked after 9, 18 after 16.
+ORDER = (1, 2, 3, 4, 5, 6, 7, 8, 9, 17, 10, 11, 12, 13, 14, 15, 16, 18)
 
 # ---------------------------------------------------------------- small rules
 
@@ -345,7 +345,49 @@ def read(buf):
             return None
     return setup, events
 
-# ----------------------- cases of document 01, and of W-201, W-202 and W-204
+# ------------------------------------------------------- the wall page (W-205)
+
+LINE = 61                               # the bytes of a line: 60 and a newline
+HEAD_WIDTHS, ENGINE_WIDTHS = (8, 3, 1), (5, 5, 5, 10, 10, 10, 10, 1, 1)
+
+
+def page_size(n):
+    """The bytes of a page: a head line and a line for each engine."""
+    return LINE * (n + 1)
+
+
+def brackets(results, standards):
+    """C low and C high of a pollutant at each of its engines, in units of 1/4,096 result unit; the sums of the first i results are made anew at each engine."""
+    found = []
+    for i in range(1, len(results) + 1):
+        low = high = 0
+        if i > 1:
+            V, d = i * sum(x * x for x in results[:i]) - sum(results[:i]) ** 2, i * (i - 1)
+            s = isqrt(K * K * V // d)
+            e = 0 if s * s * d == K * K * V else 1
+            step = 4 * K * (results[i - 1] - standards[i - 1])
+            low, high = max(0, found[-1][0] + step - s - e), max(0, found[-1][1] + step - s)
+        found.append((low, high))
+    return found
+
+
+def line(widths, figures):
+    """Each figure right-aligned with spaces in a column of its width, which it fits; spaces up to 60 bytes, and a newline."""
+    columns = [str(figure).rjust(width) for figure, width in zip(figures, widths, strict=True)]
+    assert [len(column) for column in columns] == list(widths)
+    return ''.join(columns).ljust(LINE - 1) + '\n'
+
+
+def page(year):
+    """The wall page of a year worked at K: a head line, then a line for each engine that remains, in the order of entry, with C and the marks at that engine."""
+    assert year.k == K
+    lines = [line(HEAD_WIDTHS, (year.setup[0], year.setup[1], year.periods))]
+    of_hcnox, of_co = (brackets([engine.results[which] for engine in year.engines], [engine.standards[which] for engine in year.engines]) for which in (0, 1))
+    for engine, hcnox, co, *marks in zip(year.engines, of_hcnox, of_co, year.h.marks, year.c.marks, strict=True):
+        lines.append(line(ENGINE_WIDTHS, (engine.number, *engine.results, *hcnox, *co, *marks)))
+    return ''.join(lines)
+
+# ---------------- cases of document 01, and of W-201, W-202, W-204 and W-205
 
 
 def E(number, readings, xh, xc):
@@ -427,6 +469,7 @@ def self_check():
     asks_of_years()
     asks_refused()
     failing_engines()
+    pages()
 
 
 def strikes_of_years():
@@ -587,3 +630,25 @@ def asks_refused():
     assert [told(y, engine) for engine in (E(0, 1, 0, 0), E(65536, 1, 0, 0), E(2, 1, 0, 0), E(2, 0, 0, 0), E(2, 1, 20001, 0))] == [10] * 5
     assert [told(y, engine) for engine in (E(3, 0, 0, 0), E(3, 4, 0, 0), E(3, 4, 20001, 0))] == [11] * 3
     assert told(y, E(3, 1, 20001, 0)) == told(y, E(3, 1, 0, 20001)) == 13 and told(y, E(3, 1, 20000, 20000)) == 0
+
+
+def pages():
+    """W-205: lines of 60 bytes and a newline; columns that abut; C at each engine; struck engines have no line."""
+    setup, one, two, three = (5000, 365, 800, 6100, 0, 0, 0, 0), E(1, 1, 998, 5000), E(2, 1, 1071, 5000), E(3, 1, 900, 5000)
+    assert page(Year(setup)) == '    50003654' + ' ' * 48 + '\n' and page(Year((99999999, 366, 10, 10, 0, 0, 0, 0))) == '999999993664' + ' ' * 48 + '\n'
+    assert page(Year((1, 1, 10, 10, 0, 0, 0, 0))) == '       1  11' + ' ' * 48 + '\n'
+    # document 01's undecided mark
+    first, second = '    1  998 5000' + 4 * '         0' + '--   \n', '    2 1071 5000   1057158   1057159         0         0?U   \n'
+    y = enter_all(setup, [one, two])
+    assert page(y) == page(Year(setup)) + first + second and len(page(y)) == page_size(2) == 183
+    # a third engine and its strike, an amendment, a next period and a declaration leave the lines as they are
+    y = enter_all(setup, [one, two, three, A(10, 10), Z, P, D])
+    assert page(y) == page(enter_all(setup, [one, two]))
+    # columns that touch: T 10, X 0 and 20,000, of which s is 14,481,546 (and a part): C is 4,096 x 19,990 less s
+    y = enter_all((99999999, 366, 20000, 10, 0, 0, 0, 0), [E(65535, 1, 20000, 0), E(10000, 1, 20000, 20000)])
+    assert page(y).split('\n')[1:] == ['6553520000    0' + 4 * '         0' + '--   ', '100002000020000' + 2 * '         0' + '  67397493  67397494UU   ', '']
+    # one line for each of forty, and the last C is that of the status
+    y = enter_all(setup, [E(j, 1, 700 + 37 * j % 151, 6000 + 71 * j % 257) for j in range(1, 41)])
+    lines = page(y).split('\n')
+    assert len(page(y)) == page_size(40) == 2501 and [len(text) for text in lines] == [60] * 41 + [0]
+    assert [int(lines[40][at:at + 10]) for at in (15, 25, 35, 45)] == [y.h.c_low, y.h.c_high, y.c.c_low, y.c.c_high]

@@ -1,9 +1,9 @@
 #!/usr/bin/env python3
-"""Input and expected output of the calculator's tested runs, from document 01 and W-201, W-202 and W-204 of document 02 alone (tools/model.py, and the table of
-refusals in tools/call_lists.py).
+"""Input and expected output of the calculator's tested runs, and the wall pages of the worked years, from document 01 and W-201, W-202, W-204 and W-205 of
+document 02 alone (tools/model.py, and the table of refusals in tools/call_lists.py).
 
-Run from the repository's root, it writes crates/NAME/stdin and crates/NAME/stdout of each run, and examples/YEAR.replies.txt of each worked year; it shares
-nothing with the calculator.
+Run from the repository's root, it writes crates/NAME/stdin and crates/NAME/stdout of each run, examples/YEAR.replies.txt of each worked year, the page
+examples/wall_page.page.txt, and tests/pages.txt: the pages of all worked years, one after another, examples/year.txt first. It shares nothing with the calculator.
   calculator   the worked year examples/year.txt, as it stands
   run_years    the other worked years of examples/, one after another
   run_lines    lines that are not of the form, too long or of any bytes, before a setup, in mid-year and after a second setup; the calls of
@@ -19,13 +19,13 @@ import re
 import sys
 from collections import Counter
 from call_lists import call_of, event_of, rows_that_hold, strip_of
-from model import ORDER, SIZE, Year, encode, first_refusal, self_check
+from model import ORDER, SIZE, Year, encode, first_refusal, page, self_check
 
 LONGEST = 64
 FORM = re.compile(rb'[SETAPXZL]( (0|[1-9][0-9]{0,7}))*')
 # The worked years of run_years in their order, which tests/years.sh compares.
 YEARS = ['undecided_mark', 'sample_size', 'amendment', 'failed', 'declared', 'first_engine', 'previous_limit', 'equal_limit', 'rounding', 'struck_engine', 'asked_engine',
-         'failing_engines']
+         'failing_engines', 'wall_page']
 COUNTS = {'S': 8, 'A': 2, 'P': 0, 'X': 0, 'Z': 0, 'L': 0}
 
 # --------------------------------------------------------------- the replies
@@ -263,6 +263,18 @@ def worked_year(name):
     return data
 
 
+def write_pages(years):
+    """The page of the year that each worked year's lines leave."""
+    pages = {}
+    for name, data in years.items():
+        calculator = Calculator()
+        calculator.run(data)
+        pages[name] = page(calculator.year)
+    for path, text in (('tests/pages.txt', ''.join(pages.values())), ('examples/wall_page.page.txt', pages['wall_page'])):
+        with open(path, 'w') as f:
+            f.write(text)
+
+
 def write(name, data, met):
     calculator = Calculator()
     output = calculator.run(data)
@@ -279,18 +291,20 @@ def write(name, data, met):
 def main():
     self_check()
     met = [Counter() for _ in range(4)]
-    write('calculator', worked_year('year'), met)
-    write('run_years', b''.join(map(worked_year, YEARS)), met)
+    years = {name: worked_year(name) for name in ['year'] + YEARS}
+    write_pages(years)
+    write('calculator', years['year'], met)
+    write('run_years', b''.join(years[name] for name in YEARS), met)
     lines = any_lines() + b'\n' + sessions()
     write('run_lines', lines, met)
     asked = check_asks(lines)
     print('replies to asks', dict(sorted(asked.items())), file=sys.stderr)
-    # a declared year takes no engine, so no ask tells 7; every refusal of an engine's line, of which none is 3 to 6 or 15 to 17
+    # a declared year takes no engine, so no ask tells 7; every refusal of an engine's line, of which none is 3 to 6 or 15 to 18
     assert set(asked) == {('OK', verdict) for verdict in range(7)} | {('NO', number) for number in (1, 2, 7, 8, 9, 10, 11, 12, 13, 14)}
     for title, counts in zip(('letters accepted', 'refusals', 'verdicts', 'marks'), met):
         print(title, dict(sorted(counts.items())), file=sys.stderr)
-    # 3 and 16 cannot be met by a key line: the book has its size, and L lends room for forty engines
-    assert set(met[0]) == set('SETAPXZL') and set(met[1]) == set(ORDER) - {3, 16} and set(met[2]) == set(range(8)) and set(met[3]) == set('-OU?')
+    # 3, 16 and 18 cannot be met by a key line: the book has its size, L lends room for forty engines, and no key asks for the page
+    assert set(met[0]) == set('SETAPXZL') and set(met[1]) == set(ORDER) - {3, 16, 18} and set(met[2]) == set(range(8)) and set(met[3]) == set('-OU?')
     with open('crates/calculator/stdout') as f:
         assert f.read() == 'OK 0 0 -- - -\nOK 1 0 -- - -\nOK 2 1 ?U 30 10\nOK 3 1 UU 28 10\nOK --?UUU\nOK 3 7 UU 28 10\nNO 8\n'
 

@@ -16,6 +16,8 @@ pub enum Line {
     Write(usize, u8),
     // the strip, into so many bytes
     Strip(usize),
+    // the wall page, into so many bytes
+    Report(usize),
     Call(Call),
 }
 
@@ -27,6 +29,7 @@ impl Line {
             ("N", []) => Line::Clear,
             ("W", &[place, byte]) => Line::Write(place as usize, u8::try_from(byte)?),
             ("L", &[size]) => Line::Strip(size as usize),
+            ("G", &[size]) => Line::Report(size as usize),
             ("S", setup) => Line::Call(Call::SetUp(Setup::from(<[u32; 8]>::try_from(setup)?))),
             ("E", numbers) => Line::Call(Call::Engine(engine(alloc, numbers)?)),
             ("T", numbers) => Line::Call(Call::Preview(engine(alloc, numbers)?)),

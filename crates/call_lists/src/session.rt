@@ -2,7 +2,7 @@
 use crate::calls::{Call, write_answer};
 use crate::line::Line;
 use journal::JOURNAL_SIZE;
-use queries::{marks, write_marks};
+use queries::{marks, report, write_marks, write_report};
 use reference::OutputOutcome;
 use std::alloc::Global;
 use std::io::{self, Write};
@@ -11,6 +11,9 @@ use test_lines::{ROOM, digested};
 
 // The most bytes that a strip is lent.
 const STRIP_ROOM: usize = 100;
+
+// The most bytes that a wall page is lent.
+const REPORT_ROOM: usize = 2600;
 
 // An array of 560 bytes, of which the calls are lent the first `lent`.
 #[derive(Drop)]
@@ -45,6 +48,13 @@ fn hand_back<W: Write>(out: &mut W, journal: &[u8], strip: &mut [u8]) -> io::Res
     write!(out, "|")
 }
 
+// The second form of the wall page: the refusal, and the length and a digest of the part handed back.
+fn hand_back_report<W: Write>(out: &mut W, journal: &[u8], page: &mut [u8]) -> io::Result<()> {
+    let mut refusal = 255;
+    let part = report(journal, page, &mut refusal);
+    write!(out, " {refusal} {} {}", part.len(), digest(part))
+}
+
 impl Session {
     pub fn new() -> Session {
         Session {
@@ -64,6 +74,7 @@ impl Session {
             Line::Clear => self.journal.fill(0),
             Line::Write(place, byte) => self.write(place, byte),
             Line::Strip(size) => self.strip(out, size)?,
+            Line::Report(size) => self.report(out, size)?,
             Line::Call(call) => self.call(out, &call)?,
         }
         Ok(())
@@ -96,5 +107,18 @@ impl Session {
         strip.fill(b'.');
         hand_back(out, journal, &mut strip[..size])?;
         writeln!(out, " {} {}", digest(&strip), digest(&self.journal))
+    }
+
+    // Both forms of the wall page, each into an array of dots: the refusal, the length and a digest of the array; the refusal, length and digest of the part
+    // handed back, and a digest of the array; and a digest of the journal.
+    fn report<W: Write>(&self, out: &mut W, size: usize) -> io::Result<()> {
+        let journal = &self.journal[..self.lent];
+        let size = size.min(REPORT_ROOM);
+        let mut page = [b'.'; REPORT_ROOM];
+        let OutputOutcome { refusal, length } = write_report(journal, &mut page[..size]).into();
+        write!(out, "{refusal} {length} {}", digest(&page))?;
+        page.fill(b'.');
+        hand_back_report(out, journal, &mut page[..size])?;
+        writeln!(out, " {} {}", digest(&page), digest(&self.journal))
     }
 }
