@@ -27,11 +27,34 @@ pub fn aim(random: &mut Random, worker: &Pollutant, wish: u8) -> Aim {
     beside(random, worker, wish)
 }
 
+/// An aim that makes C as large as it can become without the year failing: a high
+/// result under the lowest standard, or a low one if a second mark 'O' would follow.
+/// Now and then the low one comes first.
+pub fn climb(random: &mut Random, worker: &Pollutant, standard: u32) -> Aim {
+    let away = random.pick(&[0, 0, 1, 30, 3_000]);
+    let away = random.between(0, away);
+    let aims = [
+        (MAX_RESULT - away, 10),
+        (away, standard),
+        (away, MAX_RESULT),
+    ];
+    let mut aims = aims.map(|(result, standard)| Aim { result, standard });
+    if random.one_in(4) {
+        aims.swap(0, 1);
+    }
+    let open = aims.iter().find(|aim| !after(worker, **aim).failed);
+    *open.unwrap_or(&aims[2])
+}
+
 /// The mark that an aim gives.
 fn mark(worker: &Pollutant, aim: Aim) -> u8 {
+    after(worker, aim).mark
+}
+
+fn after(worker: &Pollutant, aim: Aim) -> Pollutant {
     let mut next = *worker;
     next.add(aim.result, aim.standard);
-    next.mark
+    next
 }
 
 /// Searches for a C so near to H that the brackets do not decide. Now and then

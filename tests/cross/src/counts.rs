@@ -2,6 +2,8 @@
 
 use crate::kinds::KINDS;
 use crate::model::Status;
+use crate::page::Page;
+use crate::page_counts::PageCounts;
 use crate::tally::{MET, SLIPS, Tally};
 
 /// A sort of call.
@@ -13,14 +15,15 @@ pub enum Column {
     Ask,
     Status,
     Marks,
+    Report,
 }
 
 const LETTERS: &[u8; 8] = b"SETAPXLZ";
-const COLUMNS: usize = LETTERS.len() + 5;
+const COLUMNS: usize = LETTERS.len() + 6;
 const NAMES: [&str; COLUMNS] = [
-    "S", "E", "T", "A", "P", "X", "L", "Z", "other", "engine", "ask", "status", "marks",
+    "S", "E", "T", "A", "P", "X", "L", "Z", "other", "engine", "ask", "status", "marks", "report",
 ];
-const REFUSALS: usize = 18;
+const REFUSALS: usize = 19;
 
 /// What each sort of call can answer, 0 for accepted; a run has to meet it all.
 const POSSIBLE: [&[usize]; COLUMNS] = [
@@ -37,6 +40,7 @@ const POSSIBLE: [&[usize]; COLUMNS] = [
     &[0, 3, 7, 8, 9, 10, 11, 12, 13, 14],
     &[0, 3, 7],
     &[0, 3, 7, 16],
+    &[0, 3, 7, 18],
 ];
 
 /// What is compared without the model.
@@ -47,14 +51,20 @@ pub enum Compared {
     Ask,
     YearOfAsks,
     OnePercent,
+    Page,
+    PageElsewhere,
+    PageOfStart,
 }
 
-const COMPARED: [&str; 5] = [
+const COMPARED: [&str; 8] = [
     "deletions compared with the status before the engine",
     "years compared with the same without deleted engines",
     "asks compared with the entry of the same engine",
     "years compared with the same without asks",
     "verdicts 1, 3 and 4 compared with a count of the engines",
+    "wall pages compared with the journal's bytes, the marks and the status",
+    "wall pages compared with the same in another buffer",
+    "wall pages compared with that of the year up to an engine",
 ];
 
 const VERSIONS: usize = 2;
@@ -75,6 +85,7 @@ impl Column {
             Column::Ask => LETTERS.len() + 2,
             Column::Status => LETTERS.len() + 3,
             Column::Marks => LETTERS.len() + 4,
+            Column::Report => LETTERS.len() + 5,
         }
     }
 }
@@ -96,9 +107,12 @@ pub struct Counts {
     /// that a slip would change, in the order of `SLIPS`: verdicts 1 and 4.
     met: [u64; MET.len()],
     slips: [[u64; 2]; SLIPS.len()],
-    /// By pollutant: the newest marks reported, and the marks written.
+    /// By pollutant: the newest marks reported, the marks written, and those on
+    /// wall pages.
     newest: [[u64; MARKS.len()]; 2],
     written: [[u64; MARKS.len()]; 2],
+    on_pages: [[u64; MARKS.len()]; 2],
+    pub pages: PageCounts,
 }
 
 impl Counts {
@@ -127,6 +141,8 @@ impl Counts {
         add_each(&mut self.slips, &case.slips);
         add_each(&mut self.newest, &case.newest);
         add_each(&mut self.written, &case.written);
+        add_each(&mut self.on_pages, &case.on_pages);
+        self.pages.add(&case.pages);
     }
 
     pub fn call(&mut self, column: Column, refusal: u8) {
@@ -186,11 +202,17 @@ impl Counts {
         }
     }
 
+    /// A right wall page of this journal, and the verdict on its year.
+    pub fn page(&mut self, page: &Page, journal: &[u8], verdict: u64) {
+        for line in &page.engines {
+            count_marks(&mut self.on_pages, line.marks);
+        }
+        self.pages.page(page, journal, verdict);
+    }
+
     fn told(&mut self, verdict: u8, marks: [u8; 2]) {
         self.verdicts[usize::from(verdict)] += 1;
-        for (row, mark) in self.newest.iter_mut().zip(marks) {
-            row[mark_place(mark)] += 1;
-        }
+        count_marks(&mut self.newest, marks);
     }
 
     /// What was never met and should have been.
@@ -228,6 +250,7 @@ impl Counts {
             }
         }
         missing.extend(self.missing_of_failing());
+        missing.extend(self.pages.missing());
         missing
     }
 
@@ -249,12 +272,14 @@ impl Counts {
         missing
     }
 
-    fn mark_rows(&self) -> [(&'static str, &[u64; MARKS.len()]); 4] {
+    fn mark_rows(&self) -> [(&'static str, &[u64; MARKS.len()]); 6] {
         [
             ("newest, HC+NOx", &self.newest[0]),
             ("newest, CO", &self.newest[1]),
             ("written, HC+NOx", &self.written[0]),
             ("written, CO", &self.written[1]),
+            ("on pages, HC+NOx", &self.on_pages[0]),
+            ("on pages, CO", &self.on_pages[1]),
         ]
     }
 
@@ -283,6 +308,7 @@ impl Counts {
             let cells = row.map(|count| format!("{count:>11}")).concat();
             println!("{name:<17}{cells}");
         }
+        self.pages.print();
     }
 
     fn print_failing(&self) {
@@ -306,13 +332,20 @@ impl Counts {
     }
 }
 
-fn add_each<const N: usize>(all: &mut [[u64; N]], case: &[[u64; N]]) {
+pub fn add_each<const N: usize>(all: &mut [[u64; N]], case: &[[u64; N]]) {
     add_row(all.as_flattened_mut(), case.as_flattened());
 }
 
-fn add_row(all: &mut [u64], case: &[u64]) {
+pub fn add_row(all: &mut [u64], case: &[u64]) {
     for (sum, count) in all.iter_mut().zip(case) {
         *sum += count;
+    }
+}
+
+/// Counts the marks of both pollutants.
+fn count_marks(rows: &mut [[u64; MARKS.len()]; 2], marks: [u8; 2]) {
+    for (row, mark) in rows.iter_mut().zip(marks) {
+        row[mark_place(mark)] += 1;
     }
 }
 

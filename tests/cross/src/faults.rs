@@ -1,6 +1,7 @@
 //! Calls whose arguments are faulty now and then.
 
 use crate::journal::{self, Setup};
+use crate::library::{LINE, REPORT};
 use crate::random::Random;
 use crate::readings::{self, MAX_READING};
 use crate::setups;
@@ -25,7 +26,7 @@ const COUNTS: [usize; 12] = [0, 0, 1, 2, 3, 4, 5, 6, 7, 8, 257, 258];
 
 /// Makes a random call; of its arguments, one in `rate` is faulty.
 pub fn call(twin: &mut Twin, random: &mut Random, rate: usize) -> u8 {
-    match random.weighted(&[3, 8, 8, 8, 4, 4, 1, 5, 2, 3, 3, 1]) {
+    match random.weighted(&[3, 8, 8, 8, 4, 4, 1, 5, 2, 3, 3, 3, 1]) {
         0 => twin.command(&setup(random, rate).line()),
         1 => twin.command(&engine_line(b'E', twin.journal(), random, rate)),
         2 => engine(twin, random, rate),
@@ -36,7 +37,8 @@ pub fn call(twin: &mut Twin, random: &mut Random, rate: usize) -> u8 {
         7 => twin.command(b"Z"),
         8 => twin.command(b"L"),
         9 => marks(twin, random),
-        10 => twin.status(),
+        10 => report(twin, random),
+        11 => twin.status(),
         _ => short(twin, random, rate),
     }
 }
@@ -206,6 +208,29 @@ pub fn marks(twin: &mut Twin, random: &mut Random) -> u8 {
         256,
     ]);
     twin.marks(length)
+}
+
+/// Writes the wall page into a buffer that is about as long as it has to be, or of
+/// some other length that is refused or is longer by some lines.
+pub fn report(twin: &mut Twin, random: &mut Random) -> u8 {
+    let engines = journal::engines(twin.journal());
+    let needed = LINE * (engines + 1);
+    let length = random.pick(&[
+        0,
+        1,
+        LINE - 1,
+        LINE,
+        LINE * engines,
+        (LINE - 1) * (engines + 1),
+        needed - 1,
+        needed,
+        needed,
+        needed + 1,
+        needed + 5 * LINE,
+        REPORT,
+    ]);
+    let more = random.pick(&[0, 0, 0, LINE, 300]);
+    twin.report(length + random.below(more + 1))
 }
 
 fn any_line(journal: &[u8], random: &mut Random, rate: usize) -> Vec<u8> {

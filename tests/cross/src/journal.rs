@@ -164,6 +164,25 @@ pub fn engines(journal: &[u8]) -> usize {
     count(1).saturating_sub(count(DELETION[0]))
 }
 
+/// The slots of the engines that remain in an accepted journal.
+pub fn remaining(journal: &[u8]) -> Vec<Slot> {
+    let mut slots = slots(&without_deleted(journal));
+    slots.retain(|slot| slot[0] == 1);
+    slots
+}
+
+/// An accepted journal as it was right after this one of the engines that remain,
+/// counted from 1, had the deleted ones never been entered; for 0, after the setup.
+pub fn cut_after(journal: &[u8], engine: usize) -> Vec<u8> {
+    let mut other = without_deleted(journal);
+    let slots = slots(&other);
+    let places = (0..slots.len()).filter(|place| slots[*place][0] == 1);
+    let ends = [0].into_iter().chain(places.map(|place| place + 1));
+    let end = ends.take(engine + 1).last().unwrap_or(0);
+    put_slots(&mut other, &slots[..end]);
+    other
+}
+
 /// An accepted journal as it would be had its deleted engines never been
 /// entered.
 pub fn without_deleted(journal: &[u8]) -> Vec<u8> {

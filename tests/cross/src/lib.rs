@@ -12,6 +12,8 @@ pub mod library;
 pub mod model;
 pub mod options;
 pub mod outcome;
+pub mod page;
+pub mod page_counts;
 pub mod plan;
 pub mod random;
 pub mod readings;

@@ -1,4 +1,4 @@
-//! The library's five calls: the C declarations and safe wrappers of them.
+//! The library's six calls: the C declarations and safe wrappers of them.
 //! include/plt.h says what each does. The file needs nothing else of this
 //! project.
 
@@ -50,6 +50,14 @@ unsafe extern "C" {
         out_length: usize,
         written: *mut usize,
     ) -> u8;
+
+    fn plt_report(
+        journal: *const u8,
+        journal_length: usize,
+        out: *mut u8,
+        out_length: usize,
+        written: *mut usize,
+    ) -> u8;
 }
 
 /// Bytes of a journal.
@@ -60,6 +68,12 @@ pub const REPLY: usize = 96;
 
 /// Bytes that hold the marks of any journal.
 pub const MARKS: usize = 80;
+
+/// Bytes of a line of the wall page, its newline included.
+pub const LINE: usize = 61;
+
+/// Bytes that hold the wall page of any journal.
+pub const REPORT: usize = 41 * LINE;
 
 /// Words that the figures need: n, verdict, nine for each pollutant.
 pub const FIGURES: usize = 20;
@@ -144,6 +158,21 @@ pub fn marks(journal: &[u8], out: &mut [u8], written: &mut usize) -> u8 {
     // SAFETY: as in `status`; `written` is one word.
     unsafe {
         plt_marks(
+            journal.as_ptr(),
+            journal.len(),
+            out.as_mut_ptr(),
+            out.len(),
+            written,
+        )
+    }
+}
+
+/// Writes the wall page; returns 0 or the refusal, and sets `written` to the
+/// number of bytes written.
+pub fn report(journal: &[u8], out: &mut [u8], written: &mut usize) -> u8 {
+    // SAFETY: as in `marks`.
+    unsafe {
+        plt_report(
             journal.as_ptr(),
             journal.len(),
             out.as_mut_ptr(),

@@ -12,6 +12,7 @@ pub enum Call<'a> {
     Ask(u32, &'a [u32], &'a [u32]),
     Status,
     Marks,
+    Report,
     /// A line with a reply buffer that is too small.
     LineShort(&'a [u8]),
     /// An engine, an ask or a status with too few words for the figures.
@@ -28,6 +29,7 @@ impl fmt::Display for Call<'_> {
             Call::Ask(number, hcnox, co) => write!(f, "ask {number} {hcnox:?} {co:?}"),
             Call::Status => write!(f, "status"),
             Call::Marks => write!(f, "marks"),
+            Call::Report => write!(f, "report"),
             Call::LineShort(line) => {
                 write!(f, "command, small reply \"{}\"", line.escape_ascii())
             }
@@ -54,8 +56,8 @@ pub enum Lent {
 pub struct Outcome {
     /// The returned number: a length or a refusal.
     pub returned: usize,
-    /// The count of bytes written, as reported: the length of a reply or of
-    /// the marks.
+    /// The count of bytes written, as reported: the length of a reply, of the
+    /// marks or of a wall page.
     pub written: usize,
     pub lent: Lent,
 }

@@ -1,6 +1,6 @@
 //! What to enter next in a year.
 
-use crate::aim::{Aim, aim};
+use crate::aim::{Aim, aim, climb};
 use crate::journal::Setup;
 use crate::random::Random;
 use crate::results::{Fails, Pattern};
@@ -20,8 +20,9 @@ pub enum Move {
 #[derive(Clone, Debug)]
 pub struct Plan {
     patterns: [Pattern; 2],
-    /// Pollutants whose marks are aimed at.
+    /// Pollutants whose marks are aimed at, and those whose C is to become large.
     hunted: [bool; 2],
+    climbing: [bool; 2],
     /// One in this many moves is an amendment.
     amendments: usize,
     /// Whether an amendment may set any standard.
@@ -40,6 +41,7 @@ impl Plan {
         Plan {
             patterns: setup.standards.map(|t| Pattern::passing(random, t)),
             hunted: [false; 2],
+            climbing: [false; 2],
             amendments: 12,
             free: false,
             pending: None,
@@ -60,6 +62,14 @@ impl Plan {
     pub fn hunting(random: &mut Random, setup: &Setup) -> Self {
         let mut plan = Self::passing(random, setup);
         plan.hunted = random.pick(&[[true, false], [false, true], [true, true]]);
+        plan
+    }
+
+    /// A year whose C becomes as large as it can, for one pollutant or both.
+    pub fn climbing(random: &mut Random, setup: &Setup) -> Self {
+        let mut plan = Self::passing(random, setup);
+        plan.climbing = random.pick(&[[true, false], [false, true], [true, true]]);
+        plan.amendments = 100;
         plan
     }
 
@@ -149,6 +159,9 @@ impl Plan {
     }
 
     fn aimed(&self, random: &mut Random, year: &Year, place: usize) -> Aim {
+        if self.climbing[place] {
+            return climb(random, &year.workers[place], year.standards[place]);
+        }
         if self.hunted[place] && year.engines() > 0 {
             let wish = random.pick(b"??????OOUUU");
             return aim(random, &year.workers[place], wish);

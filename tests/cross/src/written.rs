@@ -67,10 +67,11 @@ pub fn year(random: &mut Random) -> Year {
 
 /// Adds events until there are this many engines.
 fn grow(random: &mut Random, year: &mut Year, engines: usize) {
-    let mut plan = match random.below(6) {
+    let mut plan = match random.below(7) {
         0 => Plan::hunting(random, &year.setup),
         1 => Plan::any(random, &year.setup),
         2 => Plan::failing(random, &year.setup),
+        3 => Plan::climbing(random, &year.setup),
         _ => Plan::passing(random, &year.setup),
     };
     while year.engines() < engines && year.events() < journal::SLOTS && year.open() {

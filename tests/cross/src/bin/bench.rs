@@ -4,7 +4,7 @@ use std::hint::black_box;
 use std::time::Instant;
 
 use cross::journal::{self, COUNT_AT, SLOTS, Setup, VERSION_AT};
-use cross::library::{self, FIGURES, REPLY};
+use cross::library::{self, FIGURES, REPLY, REPORT};
 use cross::model;
 use cross::words::words_of;
 use cross::year::Year;
@@ -49,6 +49,7 @@ fn main() {
         status_row("status of ten engines", &ten),
         status_row("scan of a full journal (status)", &full),
         marks_row("marks of a full journal", &full),
+        page_row("wall page of a full journal", &full),
         line_row("setup command", &ten, SETUP),
         line_row("refused line", &ten, REFUSED),
         status_row("scan of 64 events with many strikes (status)", &deletions),
@@ -170,6 +171,24 @@ fn marks_row(name: &'static str, journal: &[u8]) -> Row {
         },
         || {
             let _ = black_box(model::strip(black_box(journal), &mut other_out));
+        },
+    );
+    assert_eq!(out, other_out);
+    row
+}
+
+fn page_row(name: &'static str, journal: &[u8]) -> Row {
+    let mut out = [0; REPORT];
+    let mut other_out = [0; REPORT];
+    let mut written = 0;
+    let row = measure(
+        name,
+        || {
+            let journal = black_box(journal);
+            black_box(library::report(journal, &mut out, &mut written));
+        },
+        || {
+            let _ = black_box(model::wall_page(black_box(journal), &mut other_out));
         },
     );
     assert_eq!(out, other_out);

@@ -1,6 +1,7 @@
 //! The asks of a year, before an entry or without one.
 
 use super::{Drive, Engine};
+use crate::faults;
 use crate::readings::MAX_RESULT;
 
 impl Drive<'_> {
@@ -31,12 +32,16 @@ impl Drive<'_> {
         self.ask_once(engine);
     }
 
+    /// Asks; sometimes the wall page is written after it.
     fn ask_once(&mut self, engine: &Engine) {
         if self.random.one_in(2) {
             let [hcnox, co] = &engine.readings;
             self.twin.ask(engine.number, hcnox, co);
         } else {
             self.twin.command(&engine.line(b'T'));
+        }
+        if self.random.one_in(8) {
+            faults::report(self.twin, self.random);
         }
     }
 

@@ -26,6 +26,7 @@ fn probe(twin: &mut Twin, random: &mut Random, journal: &[u8]) {
     twin.lend(journal);
     twin.status();
     faults::marks(twin, random);
+    faults::report(twin, random);
     faults::ask(twin, random, 20);
     for _ in 0..random.below(4) {
         faults::call(twin, random, 20);

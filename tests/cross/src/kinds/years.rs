@@ -2,6 +2,7 @@
 
 use super::{deletions, edges};
 use crate::drive::Drive;
+use crate::faults;
 use crate::plan::{Move, Plan};
 use crate::random::Random;
 use crate::readings::MAX_RESULT;
@@ -9,12 +10,13 @@ use crate::setups;
 use crate::twin::Twin;
 
 pub fn run(twin: &mut Twin, random: &mut Random) {
-    match random.weighted(&[60, 20, 8, 8, 1, 1]) {
+    match random.weighted(&[60, 20, 4, 8, 8, 1, 1]) {
         0 => plain(twin, random),
         1 => failing(twin, random),
-        2 => edges::sample_size(twin, random),
-        3 => edges::level_with_limit(twin, random),
-        4 => deletions::all_slots(twin, random),
+        2 => climbing(twin, random),
+        3 => edges::sample_size(twin, random),
+        4 => edges::level_with_limit(twin, random),
+        5 => deletions::all_slots(twin, random),
         _ => deletions::forty_first(twin, random),
     }
 }
@@ -64,6 +66,23 @@ fn failing(twin: &mut Twin, random: &mut Random) {
     end(&mut drive);
 }
 
+/// A year whose C becomes as large as it can. In half of them it fails at last.
+fn climbing(twin: &mut Twin, random: &mut Random) {
+    let length = random.pick(&[3, 6, 9, 14, 40]);
+    let mut setup = setups::plain(random);
+    if random.one_in(2) {
+        setup.standards = [10; 2];
+    }
+    let mut plan = Plan::climbing(random, &setup);
+    let mut drive = Drive::start(twin, random, setup);
+    grow(&mut drive, &mut plan, length, |_, results| results);
+    if drive.random.one_in(2) {
+        drive.enter(Move::Amendment([10; 2]));
+        while drive.enter(Move::Engine([MAX_RESULT; 2])) {}
+    }
+    end(&mut drive);
+}
+
 /// Makes the moves of a plan until there are this many engines. In one of four
 /// years some engines are preceded by one that is deleted at once, with results
 /// made from theirs.
@@ -91,11 +110,12 @@ fn grow(
 }
 
 /// Some last calls: reading, sometimes deletions, the next period twice, or a
-/// declaration and a call that is refused after it, and in a year with asks a
-/// last one.
+/// declaration and a call that is refused after it, in a year with asks a last
+/// one, and the wall page again.
 pub fn end(drive: &mut Drive) {
     drive.twin.command(b"L");
     drive.twin.status();
+    faults::report(drive.twin, drive.random);
     if drive.random.one_in(4) {
         for _ in 0..drive.random.pick(&[1, 1, 2, 3, 6]) {
             drive.enter(Move::Deletion);
@@ -119,4 +139,5 @@ pub fn end(drive: &mut Drive) {
         drive.enter(step);
     }
     drive.last_ask();
+    faults::report(drive.twin, drive.random);
 }

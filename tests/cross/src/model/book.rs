@@ -131,6 +131,11 @@ fn decode_head(head: &[u8; HEAD_BYTES]) -> Option<(u8, Setup, u8)> {
 /// The year of an accepted book: "exactly if its first 32 bytes are as above
 /// and its events could have been entered in that order", unused slots zero.
 pub(super) fn accept(book: &Book) -> Option<Year> {
+    accept_noting(book, |_| ())
+}
+
+/// The same; `note` is shown the year after each event.
+pub(super) fn accept_noting(book: &Book, mut note: impl FnMut(&Year)) -> Option<Year> {
     let (head, slots) = book.split_first_chunk::<HEAD_BYTES>()?;
     let (version, setup, events) = decode_head(head)?;
     let (slots, _) = slots.as_chunks::<SLOT_BYTES>();
@@ -143,6 +148,7 @@ pub(super) fn accept(book: &Book) -> Option<Year> {
         let event = Event::decode(slot)?;
         year.check(&event).ok()?;
         year.enter(&event);
+        note(&year);
     }
     (version == version_of(&year)).then_some(year)
 }

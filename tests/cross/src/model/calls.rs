@@ -1,14 +1,16 @@
-//! Document 01, "Refused calls, in checking order", and document 02, W-201 and
-//! W-202: the calls on a lent book.
+//! Document 01, "Refused calls, in checking order", and document 02, W-201, W-202
+//! and W-205: the calls on a lent book.
 //!
 //! Each call checks in the document's order and writes only once nothing is
 //! left to refuse.
 
 use super::Status;
 use super::book::{self, Book, Event};
+use super::page::{self, LINE_BYTES};
 use super::refusal;
 use super::rounding::{MAX_READING, MAX_RESULT, work_result};
 use super::setup::{Setup, check_standards};
+use super::work::MAX_ENGINES;
 use super::year::Year;
 
 /// Starts a year. Refusals 3, 4, 5, 6.
@@ -98,6 +100,21 @@ pub fn strip(book: &[u8], out: &mut [u8]) -> Result<usize, u8> {
     };
     front.copy_from_slice(marks);
     Ok(marks.len())
+}
+
+/// Writes the wall page at the front of `out` and says how many bytes that is.
+/// Refusals 3, 7, 18.
+pub fn wall_page(book: &[u8], out: &mut [u8]) -> Result<usize, u8> {
+    let mut cumsums = [[0; 4]; MAX_ENGINES];
+    let year = book::accept_noting(whole(book)?, |year| year.note_cumsums(&mut cumsums));
+    let year = year.ok_or(refusal::NO_BOOK)?;
+    let needed = LINE_BYTES * (year.n() + 1);
+    let Some(front) = out.get_mut(..needed) else {
+        return Err(refusal::PAGE_LENGTH);
+    };
+    let (lines, _) = front.as_chunks_mut();
+    page::write(lines, &year, &cumsums);
+    Ok(needed)
 }
 
 /// Refusal 3, for a book only read.

@@ -1,6 +1,7 @@
 //! Document 01: the production-line test book under 40 CFR 1054, with what
 //! document 02 adds: the deletion of the newest engine (W-201), the ask before an
-//! entry (W-202) and the one percent without failing engines (W-204).
+//! entry (W-202), the one percent without failing engines (W-204) and the wall
+//! page (W-205).
 //!
 //! Every call takes the book as lent bytes, recomputes all of it and keeps
 //! nothing between calls. A refused call changes no lent byte.
@@ -10,13 +11,16 @@
 mod book;
 mod calls;
 mod line;
+mod page;
 mod refusal;
 mod rounding;
 mod setup;
 mod work;
 mod year;
 
-pub use calls::{amendment, ask, declaration, deletion, engine, next_period, setup, status, strip};
+pub use calls::{
+    amendment, ask, declaration, deletion, engine, next_period, setup, status, strip, wall_page,
+};
 pub use line::key_line;
 pub use rounding::work_result;
 pub use work::Pollutant;

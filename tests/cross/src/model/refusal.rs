@@ -19,3 +19,5 @@ pub(super) const NEXT_PERIOD: u8 = 15;
 pub(super) const STRIP_LENGTH: u8 = 16;
 /// "checked after 9"
 pub(super) const NO_DELETION: u8 = 17;
+/// "checked after 16"
+pub(super) const PAGE_LENGTH: u8 = 18;

@@ -1,6 +1,6 @@
-//! Document 01, "Periods" and "Verdict", with document 02, W-201 and W-204: the
-//! year a book holds, event by event, and the refusals that depend on it (8, 9,
-//! 10, 14, 15 and 17).
+//! Document 01, "Periods" and "Verdict", with document 02, W-201, W-204 and W-205:
+//! the year a book holds, event by event, and the refusals that depend on it (8,
+//! 9, 10, 14, 15 and 17).
 
 use std::num::NonZeroU64;
 
@@ -35,6 +35,17 @@ const NO_ENGINE: Engine = Engine {
     results: [0; 2],
     standards: [0; 2],
 };
+
+/// C low and C high of HC+NOx, then of CO, at each engine. All are below 3.4e9.
+pub(super) type Cumsums = [[u32; 4]; MAX_ENGINES];
+
+/// What the wall page says of an engine.
+pub(super) struct Line {
+    pub(super) number: u16,
+    pub(super) results: [u16; 2],
+    pub(super) cumsums: [u32; 4],
+    pub(super) marks: [u8; 2],
+}
 
 /// A setup and the events entered so far. Its engines are those that remain.
 pub(super) struct Year {
@@ -81,7 +92,7 @@ impl Year {
     }
 
     /// n; at most 40.
-    fn n(&self) -> usize {
+    pub(super) fn n(&self) -> usize {
         self.pollutants[0].n as usize
     }
 
@@ -108,6 +119,27 @@ impl Year {
             .get(..self.n())
             .unwrap_or_default()
             .as_flattened()
+    }
+
+    /// Notes C at the newest engine; after a deletion that is one noted before.
+    pub(super) fn note_cumsums(&self, cumsums: &mut Cumsums) {
+        let [hcnox, co] = &self.pollutants;
+        let newest = self.n().checked_sub(1);
+        if let Some(place) = newest.and_then(|newest| cumsums.get_mut(newest)) {
+            *place = [hcnox.c_low, hcnox.c_high, co.c_low, co.c_high].map(|c| c as u32);
+        }
+    }
+
+    /// The engines' lines of the wall page, if C was noted after each event.
+    pub(super) fn lines(&self, cumsums: &Cumsums) -> impl Iterator<Item = Line> {
+        let worked = cumsums.iter().zip(&self.marks);
+        let lines = self.engines().iter().zip(worked);
+        lines.map(|(engine, (&cumsums, &marks))| Line {
+            number: engine.number,
+            results: engine.results,
+            cumsums,
+            marks,
+        })
     }
 
     fn failed(&self) -> bool {

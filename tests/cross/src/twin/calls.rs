@@ -4,7 +4,7 @@ use super::Twin;
 use crate::buffer::Buffer;
 use crate::counts::Column;
 use crate::journal::{self, VERSION_AT};
-use crate::library::{self, FIGURES, REPLY};
+use crate::library::{self, FIGURES, LINE, REPLY};
 use crate::model::{self, Status};
 use crate::outcome::{Call, Outcome};
 use crate::words::words_of;
@@ -114,15 +114,21 @@ impl Twin {
         if self.noise.one_in(3) {
             self.status();
         }
+        let engines = journal::engines(self.model.part());
         if self.noise.one_in(5) {
-            let needed = 2 * journal::engines(self.model.part());
+            let needed = 2 * engines;
             let more = self.noise.below(4);
             self.marks((needed + more).saturating_sub(1));
+        }
+        if self.noise.one_in(8) {
+            let needed = LINE * (engines + 1);
+            let more = self.noise.pick(&[0, 1, 1, 2, LINE, 200]);
+            self.report(needed + more - 1);
         }
     }
 
     /// Counts a journal that was read, if it was accepted.
-    fn count_version(&mut self, accepted: bool) {
+    pub(super) fn count_version(&mut self, accepted: bool) {
         if accepted {
             self.counts.version(self.kept[VERSION_AT]);
         }

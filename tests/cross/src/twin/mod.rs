@@ -3,6 +3,7 @@
 mod asks;
 mod calls;
 mod counted;
+mod pages;
 mod short;
 mod told;
 

@@ -5,39 +5,57 @@ use std::fmt;
 use super::Twin;
 use crate::counts::Compared;
 use crate::journal::{self, VERSION_AT};
-use crate::library::{self, FIGURES, MARKS};
+use crate::library::{self, FIGURES, MARKS, REPORT};
 use crate::outcome::Call;
 
-/// A status, as the reply of an entry and as figures, and the marks.
+/// A status, as the reply of an entry and as figures, the marks and the wall page.
 #[derive(Clone, PartialEq, Eq, Debug)]
 pub struct Told {
     reply: String,
     figures: [u64; FIGURES],
     marks: Vec<u8>,
+    page: Vec<u8>,
 }
 
 impl Told {
     fn of(journal: &[u8]) -> Self {
         let mut figures = [0; FIGURES];
         library::status(journal, &mut figures);
-        let mut marks = vec![0; MARKS];
-        let mut written = 0;
-        library::marks(journal, &mut marks, &mut written);
-        marks.truncate(written);
         Told {
             reply: reply_of(&figures),
             figures,
-            marks,
+            marks: marks_of(journal),
+            page: page_of(journal, REPORT),
         }
     }
+}
+
+/// The marks that the library writes.
+pub(super) fn marks_of(journal: &[u8]) -> Vec<u8> {
+    let mut marks = vec![0; MARKS];
+    let mut written = 0;
+    library::marks(journal, &mut marks, &mut written);
+    marks.truncate(written);
+    marks
+}
+
+/// The wall page that the library writes into a buffer of this length.
+pub(super) fn page_of(journal: &[u8], length: usize) -> Vec<u8> {
+    let mut page = vec![0; length];
+    let mut written = 0;
+    library::report(journal, &mut page, &mut written);
+    page.truncate(written);
+    page
 }
 
 impl fmt::Display for Told {
     fn fmt(&self, f: &mut fmt::Formatter<'_>) -> fmt::Result {
         let reply = self.reply.escape_debug();
         let marks = self.marks.escape_ascii();
+        let page = self.page.escape_ascii();
         let figures = self.figures;
-        write!(f, "\"{reply}\", figures {figures:?}, marks \"{marks}\"")
+        write!(f, "\"{reply}\", figures {figures:?}, marks \"{marks}\", ")?;
+        write!(f, "page \"{page}\"")
     }
 }
 
