@@ -36,11 +36,16 @@ use Rattle.report.specs.Report.{head_fields, row_fields, head_of, row_of}
 pub head-legible : (s : Setup) → setup_in_range s ≡ true → All Legible (head_fields (head_of s))
 head-legible s h =
     let b = bounded s h in
-    All-from_recursion Legible (head_fields (head_of s))
-    (figure-legible 8 s.volume (omega arith) (omega (arith, b.volume)),
-    (figure-legible 3 s.days (omega arith) (omega (arith, b.days)),
-    (figure-legible 1 (periods s.volume s.days) (omega arith) (omega (arith, periods-le s.volume s.days)),
-    tt)))
+    All-from_recursion Legible (head_fields (head_of s)) (
+      figure-legible 8 s.volume (omega arith) (omega (arith, b.volume)),
+      (
+        figure-legible 3 s.days (omega arith) (omega (arith, b.days)),
+        (
+          figure-legible 1 (periods s.volume s.days) (omega arith) (omega (arith, periods-le s.volume s.days)),
+          tt,
+        ),
+      ),
+    )
 
 -- ---- an engine's line
 
@@ -83,17 +88,34 @@ pub row-legible : (x : Tested) (earlier : List Tested) → Printable (x ∷ earl
 row-legible x earlier p =
     let h = cumsum-fits (history Hcnox (x ∷ earlier)) (p.histories Hcnox) in
     let c = cumsum-fits (history Co (x ∷ earlier)) (p.histories Co) in
-    All-from_recursion Legible (row_fields (row_of x earlier))
-    (figure-legible 5 x.number (omega arith) (omega (arith, All-head Numbered x earlier p.numbers)),
-    (figure-legible 5 x.results.hcnox (omega arith) (omega (arith, (p.histories Hcnox).tests.0)),
-    (figure-legible 5 x.results.co (omega arith) (omega (arith, (p.histories Co).tests.0)),
-    (figure-legible 10 (cumsum 1024 (history Hcnox (x ∷ earlier))).low (omega arith) h.0,
-    (figure-legible 10 (cumsum 1024 (history Hcnox (x ∷ earlier))).high (omega arith) h.1,
-    (figure-legible 10 (cumsum 1024 (history Co (x ∷ earlier))).low (omega arith) c.0,
-    (figure-legible 10 (cumsum 1024 (history Co (x ∷ earlier))).high (omega arith) c.1,
-    (symbol-legible (mark 1024 (history Hcnox (x ∷ earlier))),
-    (symbol-legible (mark 1024 (history Co (x ∷ earlier))),
-    tt)))))))))
+    All-from_recursion Legible (row_fields (row_of x earlier)) (
+      figure-legible 5 x.number (omega arith) (omega (arith, All-head Numbered x earlier p.numbers)),
+      (
+        figure-legible 5 x.results.hcnox (omega arith) (omega (arith, (p.histories Hcnox).tests.0)),
+        (
+          figure-legible 5 x.results.co (omega arith) (omega (arith, (p.histories Co).tests.0)),
+          (
+            figure-legible 10 (cumsum 1024 (history Hcnox (x ∷ earlier))).low (omega arith) h.0,
+            (
+              figure-legible 10 (cumsum 1024 (history Hcnox (x ∷ earlier))).high (omega arith) h.1,
+              (
+                figure-legible 10 (cumsum 1024 (history Co (x ∷ earlier))).low (omega arith) c.0,
+                (
+                  figure-legible 10 (cumsum 1024 (history Co (x ∷ earlier))).high (omega arith) c.1,
+                  (
+                    symbol-legible (mark 1024 (history Hcnox (x ∷ earlier))),
+                    (
+                      symbol-legible (mark 1024 (history Co (x ∷ earlier))),
+                      tt,
+                    ),
+                  ),
+                ),
+              ),
+            ),
+          ),
+        ),
+      ),
+    )
 
 -- ---- of every year that could have been entered
 
