@@ -16,6 +16,7 @@ use printing::print_marks;
 use reference::{Answer, OutputAnswer, OutputOutcome};
 use refusals::{check_marks, check_report, check_status};
 use report_printing::print_report;
+use report_scan::Rows;
 use verdicts::status::status_of;
 
 // Status.
@@ -44,8 +45,9 @@ pub fn write_report(journal: &[u8], out: &mut [u8]) -> OutputAnswer
     ensures outcome { output_outcome_of result ≡ output_outcome Report journal.now out.old }
     ensures out_after { out.new ≡ out_after Report journal.now out.old }
 {
-    let p = check_report(journal, out.len())?;
-    print_report(&p, out);
+    let mut rows = Rows::new();
+    let p = check_report(journal, out.len(), &mut rows)?;
+    print_report(&p, rows.as_slice(), out);
     Ok(LINE_SIZE * (p.engines.len() + 1))
 }
 

@@ -2,11 +2,12 @@
 // of its own are in the crates change_decision and engine_decision. Nothing is written.
 #![tactic(auto)]
 
-ghost use Rattle.std.specs.Prelude.{◌≡◌, IfOk, Some};
+ghost use Rattle.std.specs.Prelude.{◌≡◌, [], IfOk, Some};
 ghost use Rattle.conditions.specs.Rows.{first};
 ghost use Rattle.year.specs.Model.{NoSetup};
 ghost use Rattle.journal.specs.Read.{read_journal};
 ghost use Rattle.reference.specs.Call.{Marks, Report, ReadStatus, Write, SetUp, Ask};
+ghost use Rattle.report_scan.specs.Rows.{report_rows};
 ghost use Rattle.reference.specs.Refusals.{refusal};
 ghost use Rattle.reference.specs.Refused.{refused};
 ghost use Rattle.reference.specs.Answers.{refusal_on};
@@ -17,6 +18,7 @@ use columns::LINE_SIZE;
 use journal::JOURNAL_SIZE;
 use progress::Progress;
 use reference::Refusal;
+use report_scan::{Rows, scan_rows};
 use scan::scan_bytes;
 use schedule::{factors_in_range, production_in_range, standards_in_range};
 use verdicts::verdict::closed;
@@ -62,13 +64,27 @@ pub fn check_marks(journal: &[u8], size: usize) -> Result<Progress, Refusal>
     Ok(p)
 }
 
-// Refusals 3, 7 and 18, for an output of this size; otherwise the year that the journal holds.
+// Refusals 3 and 7, as for status; otherwise the year that the journal holds, and what the lines of its page show.
+#[tactic(auto, unfolding(reference::specs::Refusals::refusal, reference::specs::Refusals::refusals))]
+fn check_rows(journal: &[u8], rows: &mut Rows) -> Result<Progress, Refusal>
+    requires { rows.old.items ≡ [] }
+    ensures refusal { refused result ≡ refusal_on (Ask ReadStatus) journal.now }
+    ensures year { IfOk result (λ p. Some p ≡ year_of (read_journal journal.now)) }
+    ensures rows { IfOk result (λ p. rows.new.items ≡ report_rows p.tested) }
+{
+    let journal = journal.as_array().ok_or(Refusal::JournalSize)?;
+    scan_rows(journal, rows).ok_or(Refusal::NotAJournal)
+}
+
+// Refusals 3, 7 and 18, for an output of this size; otherwise the same.
 #[tactic(auto, using(crate::proofs::Outputs::report_refused))]
-pub fn check_report(journal: &[u8], size: usize) -> Result<Progress, Refusal>
+pub fn check_report(journal: &[u8], size: usize, rows: &mut Rows) -> Result<Progress, Refusal>
+    requires { rows.old.items ≡ [] }
     ensures refusal { refused result ≡ refusal_on (Ask (Write Report size)) journal.now }
     ensures year { IfOk result (λ p. Some p ≡ year_of (read_journal journal.now)) }
+    ensures rows { IfOk result (λ p. rows.new.items ≡ report_rows p.tested) }
 {
-    let p = check_status(journal)?;
+    let p = check_rows(journal, rows)?;
     if size < LINE_SIZE * (p.engines.len() + 1) {
         return Err(Refusal::ReportSize);
     }

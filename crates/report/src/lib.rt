@@ -13,7 +13,7 @@ pub struct Head {
 }
 
 // An engine's number and results, C as it was at that engine, and the bytes of its marks.
-#[derive(Clone, Copy)]
+#[derive(Clone, Copy, Default)]
 pub struct Row {
     pub number: u16,
     pub results: Pair<u16>,

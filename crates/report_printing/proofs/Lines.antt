@@ -1,80 +1,56 @@
--- What a line shows, from the figures that are carried along; and the lines of the engines before an index, with one more.
-use mathlib.Core.Path.{◌≡◌, refl, sym, ap, subst, ◌∙◌}
-use mathlib.Core.List.{List, [], ◌∷◌, ◌++◌, reverse}
+-- The lines of rows: those before an index, with one more; and those of a year's engines.
+use mathlib.Core.Path.{◌≡◌, refl, sym, ap, ◌∙◌}
+use mathlib.Core.List.{List, [], ◌∷◌, ◌++◌, append_assoc}
 use Prim.Native.Nat.{ℕ, ◌+◌, ◌*◌, ◌-◌, ◌≤◌, ◌<◌}
 use native.Mathlib.Omega.{arith}
 use borrow.Rule.Slice.PartMut.{put_mid}
-use lib.ListN.{length, take, drop, length-append}
-use lib.Seq.{drop-append_seam}
-use Rattle.std.proofs.lemmas.List.{take-append-drop, reverse-append}
+use lib.ListN.{length, take, length-append}
+use Rattle.std.specs.Prelude.{All}
+use Rattle.std.proofs.lemmas.List.{append-nil}
+use Rattle.std.proofs.lemmas.List.Elements.{All-nil, All-push}
 use Rattle.statistics.specs.Ranges.{HistoryInRange}
 use Rattle.buffers.specs.Bytes.{put}
 use Rattle.buffers.proofs.Lists.{put-part, put_next}
-use Rattle.cumsum.specs.Intervals.{cumsum}
-use Rattle.cumsum.specs.Marks.{mark_byte}
-use Rattle.year.specs.declared.Pair.{Pair}
 use Rattle.year.specs.declared.Tested.{Tested}
 use Rattle.year.specs.Setup.{Pollutant, Hcnox, Co}
 use Rattle.year.specs.Replay.{history}
-use Rattle.figures.specs.declared.Running.{Running}
-use Rattle.figures.specs.Running.{running}
-use Rattle.engines.proofs.Newest.{newest_first}
 use Rattle.report.specs.declared.Row.{Row}
 use Rattle.report.specs.Report.{row_line, row_of, engine_lines}
 use Rattle.report.proofs.Ranges.{history-drop, cumsum-fits}
+use Rattle.report_scan.specs.Rows.{report_rows}
+use Rattle.report_printing.specs.Lines.{CumsumFits, row_lines}
 
-pub row_is : (x : Tested) (f : Pair Running) (earlier : List Tested)
-    → f.hcnox ≡ running 1024 (history Hcnox (x ∷ earlier)) → f.co ≡ running 1024 (history Co (x ∷ earlier))
-    → record {
-      number = x.number;
-      results = x.results;
-      cumsum = record { hcnox = f.hcnox.cumsum; co = f.co.cumsum };
-      marks = record { hcnox = mark_byte f.hcnox.mark; co = mark_byte f.co.mark };
-    } ≡ row_of x earlier
-unfolding running
-row_is x f earlier h o = rw (h, o) refl
+lines-append : (rs : List Row) (r : Row) → row_lines (rs ++ r ∷ []) ≡ row_lines rs ++ row_line r
+lines-append [] r = append-nil (row_line r)
+lines-append (s ∷ rs) r = ap (λ (l : List ℕ). row_line s ++ l) (lines-append rs r) ∙ sym (append_assoc (row_line s) (row_lines rs) (row_line r))
 
--- the first i of engines in range are in range
-pub first-in-range : (q : Pollutant) (xs : List Tested) (i : ℕ) → HistoryInRange 40 (history q (reverse xs)) → HistoryInRange 40 (history q (reverse (take i xs)))
-first-in-range q xs i r =
-    let later = reverse (drop i xs) in
-    let split : reverse xs ≡ later ++ reverse (take i xs) = ap (λ (l : List Tested). reverse l) (sym (take-append-drop i xs)) ∙ reverse-append (take i xs) (drop i xs) in
-    let newest : drop (length later) (reverse xs) ≡ reverse (take i xs) = ap (drop (length later)) split ∙ drop-append_seam later (reverse (take i xs)) in
-    subst (λ (l : List Tested). HistoryInRange 40 (history q l)) newest (history-drop q (length later) (reverse xs) r)
+-- the lines of the rows before an index, and one more
+module _ (rs : List Row) (i : ℕ) (r : Row) (more : take (i + 1) rs ≡ take i rs ++ r ∷ []) (line : List ℕ) (is : line ≡ row_line r) (long : length line ≡ 61)
+    (size : length (row_lines (take i rs)) ≡ 61 * i) where
+  next : row_lines (take (i + 1) rs) ≡ row_lines (take i rs) ++ line
+  next = ap row_lines more ∙ lines-append (take i rs) r ∙ ap (λ (l : List ℕ). row_lines (take i rs) ++ l) (sym is)
 
--- one more engine, which follows the first i: its figures, its line's ranges, and the lines with its own behind them
-module _ (xs : List Tested) (i : ℕ) (x : Tested) (more : take (i + 1) xs ≡ take i xs ++ x ∷ []) where
-  abbrev earlier : List Tested
-  earlier = reverse (take i xs)
+  pub size-next : length (row_lines (take (i + 1) rs)) ≡ 61 * (i + 1)
+  size-next = omega (arith, ap length next, length-append (row_lines (take i rs)) line, long, size)
 
-  newest : reverse (take (i + 1) xs) ≡ x ∷ earlier
-  newest = ap (λ (l : List Tested). reverse l) more ∙ newest_first (take i xs) x
+  pub lines-next : (out now : List ℕ) (place : ℕ) → 61 * (length rs + 1) ≤ length out → place ≡ 61 * (i + 1) → now ≡ put out 61 (row_lines (take i rs))
+      → put_mid place (place + 61 - place) now line ≡ put out 61 (row_lines (take (i + 1) rs))
+  lines-next out now place room at e =
+      let here : place ≡ 61 + length (row_lines (take i rs)) = omega (arith, at, size) in
+      put-part now place (place + 61) line (omega (arith, long))
+      ∙ ap (λ (b : List ℕ). put b place line) e
+      ∙ ap (λ (n : ℕ). put (put out 61 (row_lines (take i rs))) n line) here
+      ∙ put_next out 61 (row_lines (take i rs)) line (omega arith)
+      ∙ ap (put out 61) (sym next)
 
-  pub figures-next : (q : Pollutant) (f : Running) → f ≡ running 1024 (history q (x ∷ earlier)) → f ≡ running 1024 (history q (reverse (take (i + 1) xs)))
-  figures-next q f e = rw newest e
+-- ---- the rows of a year
 
-  cumsum-next : (q : Pollutant) → HistoryInRange 40 (history q (reverse xs))
-      → ((cumsum 1024 (history q (x ∷ earlier))).low < 10000000000) × ((cumsum 1024 (history q (x ∷ earlier))).high < 10000000000)
-  cumsum-next q r = cumsum-fits (history q (x ∷ earlier)) (subst (λ (l : List Tested). HistoryInRange 40 (history q l)) newest (first-in-range q xs (i + 1) r))
+pub year-lines : (xs : List Tested) → row_lines (report_rows xs) ≡ engine_lines xs
+year-lines [] = refl
+year-lines (x ∷ xs) = lines-append (report_rows xs) (row_of x xs) ∙ ap (λ (l : List ℕ). l ++ row_line (row_of x xs)) (year-lines xs)
 
-  module _ (r : Row) (is : r ≡ row_of x earlier) (ranges : (q : Pollutant) → HistoryInRange 40 (history q (reverse xs))) where
-    pub hcnox-fits : (r.cumsum.hcnox.low < 10000000000) × (r.cumsum.hcnox.high < 10000000000)
-    hcnox-fits = rw is (cumsum-next Hcnox (ranges Hcnox))
-
-    pub co-fits : (r.cumsum.co.low < 10000000000) × (r.cumsum.co.high < 10000000000)
-    co-fits = rw is (cumsum-next Co (ranges Co))
-
-  module _ (line : List ℕ) (is : line ≡ row_line (row_of x earlier)) (long : length line ≡ 61) (size : length (engine_lines earlier) ≡ 61 * i) where
-    pub size-next : length (engine_lines (reverse (take (i + 1) xs))) ≡ 61 * (i + 1)
-    size-next = rw (newest, ← is) (omega (arith, length-append (engine_lines earlier) line, long, size))
-
-    pub lines-next : (out now : List ℕ) (place : ℕ) → 61 * (length xs + 1) ≤ length out → i < length xs → place ≡ 61 * (i + 1)
-        → now ≡ put out 61 (engine_lines earlier) → put_mid place (place + 61 - place) now line ≡ put out 61 (engine_lines (reverse (take (i + 1) xs)))
-    lines-next out now place room l at e =
-        let here : place ≡ 61 + length (engine_lines earlier) = omega (arith, at, size) in
-        put-part now place (place + 61) line (omega (arith, long))
-        ∙ ap (λ (b : List ℕ). put b place line) e
-        ∙ ap (λ (n : ℕ). put (put out 61 (engine_lines earlier)) n line) here
-        ∙ put_next out 61 (engine_lines earlier) line (omega arith)
-        ∙ ap (λ (b : List ℕ). put out 61 (engine_lines earlier ++ b)) is
-        ∙ ap (λ (l : List Tested). put out 61 (engine_lines l)) (sym newest)
+pub rows-fit : (xs : List Tested) → ((q : Pollutant) → HistoryInRange 40 (history q xs)) → All CumsumFits (report_rows xs)
+rows-fit [] r = All-nil CumsumFits
+rows-fit (x ∷ xs) r =
+    All-push CumsumFits (report_rows xs) (row_of x xs) (rows-fit xs (λ q. history-drop q 1 (x ∷ xs) (r q)))
+    (record { hcnox = cumsum-fits (history Hcnox (x ∷ xs)) (r Hcnox); co = cumsum-fits (history Co (x ∷ xs)) (r Co) })

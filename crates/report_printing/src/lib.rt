@@ -1,24 +1,19 @@
 // The wall page ("report") of a year, written into a lent buffer (document 02, W-205).
 #![tactic(auto)]
 
-ghost use Rattle.std.specs.Prelude.{◌≡◌, true, List, ◌∷◌, ◌+◌, ◌*◌, ◌≤◌, ◌<◌, length, reverse};
+ghost use Rattle.std.specs.Prelude.{◌≡◌, true, ◌+◌, ◌*◌, ◌≤◌, ◌<◌, length, All};
 ghost use Rattle.buffers.specs.Bytes.{put};
-ghost use Rattle.statistics.specs.Ranges.{HistoryInRange};
-ghost use Rattle.figures.specs.Running.{running};
-ghost use Rattle.year.specs.declared.Tested.{Tested};
-ghost use Rattle.year.specs.Setup.{Pollutant, Hcnox, Co, setup_in_range};
-ghost use Rattle.year.specs.Replay.{history};
-ghost use Rattle.report.specs.Report.{head_line, row_line, head_of, row_of, engine_lines, report};
+ghost use Rattle.year.specs.Setup.{setup_in_range};
+ghost use Rattle.report.specs.Report.{head_line, row_line, head_of, report};
+ghost use Rattle.report_scan.specs.Rows.{report_rows};
+ghost use Rattle.report_printing.specs.Lines.{CumsumFits, row_lines};
 
 use buffers::front::put_front;
 use columns::{LINE_SIZE, Line};
-use cumsum::RESOLUTION;
-use engines::rework::add_tests;
-use figures::Running;
 use progress::Progress;
 use report::{Head, Row};
 use schedule::periods;
-use year::{Pair, Setup, Tested};
+use year::Setup;
 
 // The head's figures.
 fn head_of(s: Setup) -> Head
@@ -47,29 +42,9 @@ fn head_line(h: Head) -> Line
     line
 }
 
-// What the line of an engine shows, from the figures at that engine.
-#[tactic(auto, using(crate::proofs::Lines::row_is))]
-fn row_of(x: &Tested, figures: &Pair<Running>) -> Row
-    ensures { (earlier : List Tested) → figures.now.hcnox ≡ running 1024 (history Hcnox (x.now ∷ earlier)) → figures.now.co ≡ running 1024 (history Co (x.now ∷ earlier)) → result ≡ row_of x.now earlier }
-{
-    Row {
-        number: x.number,
-        results: x.results,
-        cumsum: Pair {
-            hcnox: figures.hcnox.cumsum,
-            co: figures.co.cumsum,
-        },
-        marks: Pair {
-            hcnox: u8::from(figures.hcnox.mark),
-            co: u8::from(figures.co.mark),
-        },
-    }
-}
-
 // The line of an engine.
 fn row_line(r: Row) -> Line
-    requires hcnox { (r.cumsum.hcnox.low < 10000000000) × (r.cumsum.hcnox.high < 10000000000) }
-    requires co { (r.cumsum.co.low < 10000000000) × (r.cumsum.co.high < 10000000000) }
+    requires { CumsumFits r }
     ensures written { result ≡ row_line r }
     ensures size { length result ≡ 61 }
 {
@@ -87,29 +62,28 @@ fn row_line(r: Row) -> Line
     line
 }
 
-// Writes the lines of engines in order of entry behind the head line. C and the marks are those at each engine. The rest of the buffer is unchanged.
-fn print_engines(engines: &[Tested], out: &mut [u8])
-    requires histories { (q : Pollutant) → HistoryInRange 40 (history q (reverse engines.now)) }
-    requires room { 61 * (length engines.now + 1) ≤ length out.old }
-    ensures { out.new ≡ put out.old 61 (engine_lines (reverse engines.now)) }
+// Writes the lines of rows behind the head line. The rest of the buffer is unchanged.
+fn print_rows(rows: &[Row], out: &mut [u8])
+    requires fits { All CumsumFits rows.now }
+    requires room { 61 * (length rows.now + 1) ≤ length out.old }
+    ensures { out.new ≡ put out.old 61 (row_lines rows.now) }
 {
-    let mut figures = Pair::default();
     let mut place = LINE_SIZE;
-    for x in engines {
-        add_tests(&mut figures, x.tests(), RESOLUTION);
-        let line = row_line(row_of(x, &figures));
+    for r in rows {
+        let line = row_line(*r);
         let end = place + LINE_SIZE;
         out[place..end].copy_from_slice(line.as_bytes());
         place = end;
     }
 }
 
-// Writes the page at the front of a lent buffer. The rest of the buffer is unchanged.
-pub fn print_report(p: &Progress, out: &mut [u8])
+// Writes the page at the front of a lent buffer, from what its lines show. The rest of the buffer is unchanged.
+pub fn print_report(p: &Progress, rows: &[Row], out: &mut [u8])
     requires setup { setup_in_range p.now.setup ≡ true }
+    requires rows { rows.now ≡ report_rows p.now.tested }
     requires room { 61 * (length p.now.tested + 1) ≤ length out.old }
     ensures { out.new ≡ put out.old 0 (report p.now) }
 {
     put_front(out, head_line(head_of(p.setup)).as_bytes());
-    print_engines(p.engines.as_slice(), out);
+    print_rows(rows, out);
 }

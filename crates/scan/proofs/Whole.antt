@@ -16,11 +16,12 @@ use Rattle.journal.specs.Acceptance.{is_header, is_version, enters_up_to}
 use Rattle.journal.proofs.Exactly.{acceptable-read, not-acceptable}
 use Rattle.std.specs.Prelude.{None}
 use Rattle.year.specs.Model.{Model, NoSetup}
-use Rattle.slots.specs.Scanned.{year_of, entered}
+use Rattle.year.specs.Replay.{start}
+use Rattle.slots.specs.Scanned.{year_of, Entered, entered}
 use Rattle.slots.proofs.Entering.{none-entered, all-entered}
 
 -- no state, where there is no year
-no_year : {model : Model} → model ≡ NoSetup → None ≡ year_of model
+pub no_year : {model : Model} → model ≡ NoSetup → None ≡ year_of model
 no_year e = rw e
 
 module _ (journal : List ℕ) where
@@ -30,21 +31,23 @@ module _ (journal : List ℕ) where
   pub other_size : (length journal ≡ 544 → ⊥) → None ≡ year_of (read_journal journal)
   other_size f = no_year (not-acceptable journal (λ p. f p.size))
 
-  pub too_many : 64 < count → None ≡ year_of (read_journal journal)
-  too_many h = no_year (not-acceptable journal (λ p. omega (arith, p.count)))
+  pub too_many : 64 < count → read_journal journal ≡ NoSetup
+  too_many h = not-acceptable journal (λ p. omega (arith, p.count))
 
-  -- the setup of the header is out of range: nothing is entered
-  pub other-setup : (setup : Setup) → setup ≡ setup_in journal → (ranged : Bool) → ranged ≡ setup_in_range setup → (n : ℕ) → ranged ≡ false → None ≡ year_of (entered journal n)
-  other-setup setup is ranged test n f = no_year (none-entered journal n (rw (sym (ap setup_in_range is) ∙ sym test ∙ f)))
+  -- the setup of the header is out of range
+  pub other-setup : (setup : Setup) → setup ≡ setup_in journal → (ranged : Bool) → ranged ≡ setup_in_range setup → ranged ≡ false → read_journal journal ≡ NoSetup
+  other-setup setup is ranged test f = not-acceptable journal (λ p. true≢false (sym p.setup ∙ sym (ap setup_in_range is) ∙ sym test ∙ f))
+
+  pub first-entered : (setup : Setup) → setup ≡ setup_in journal → setup_in_range setup ≡ true → Entered journal 0 (start setup)
+  first-entered setup is r = record { setup = sym (ap setup_in_range is) ∙ r; enters = refl; stands = ap start is }
 
   module _ (n : length journal ≡ 544) (header version zero : Bool) (eh : header ≡ is_header journal) (ev : version ≡ is_version journal count)
       (ez : zero ≡ is_zero (take (544 - slot_place count) (drop (slot_place count) journal))) where
     unused-is : zero ≡ is_zero (drop (slot_place count) journal)
     unused-is = rw (rw n at (part-from journal (slot_place count))) at ez
 
-    pub other-bytes : ((header && version) && zero) ≡ false → None ≡ year_of (read_journal journal)
-    other-bytes h =
-        no_year (not-acceptable journal (λ p. true≢false (sym (and-true (and-true (eh ∙ p.header) (ev ∙ p.version)) (unused-is ∙ p.unused)) ∙ h)))
+    pub other-bytes : ((header && version) && zero) ≡ false → read_journal journal ≡ NoSetup
+    other-bytes h = not-acceptable journal (λ p. true≢false (sym (and-true (and-true (eh ∙ p.header) (ev ∙ p.version)) (unused-is ∙ p.unused)) ∙ h))
 
     pub by-events : count ≤ 64 → ((header && version) && zero) ≡ true → entered journal count ≡ read_journal journal
     by-events few h = by (setup_in_range (setup_in journal)) (enters_up_to journal count) refl refl

@@ -1,9 +1,10 @@
 // Reading a buffer of any length and content as a journal, from its first event to its last.
 #![tactic(auto)]
 
-ghost use Rattle.std.specs.Prelude.{◌≡◌, ◌≤◌};
+ghost use Rattle.std.specs.Prelude.{◌≡◌};
 ghost use Rattle.journal.specs.Read.{read_journal};
-ghost use Rattle.slots.specs.Scanned.{year_of, entered};
+ghost use Rattle.scan.specs.Head.{Headed};
+ghost use Rattle.slots.specs.Scanned.{year_of};
 
 use buffers::parts::is_zero;
 use journal::{COUNT_PLACE, JOURNAL_SIZE, SLOTS, slot_place};
@@ -12,22 +13,11 @@ use schedule::setup_in_range;
 use setup_decoder::{is_header, setup_in};
 use slots::enter_slots;
 use versions::is_version;
+use year::Setup;
 
-// Decodes the setup, and enters the events of the slots.
-fn scan_events(journal: &[u8; JOURNAL_SIZE], count: usize) -> Option<Progress>
-    requires { count ≤ 64 }
-    ensures { result ≡ year_of (entered journal.now count) }
-{
-    let setup = setup_in(journal);
-    if !setup_in_range(setup) {
-        return None;
-    }
-    enter_slots(journal, count, Progress::start(setup))
-}
-
-// Reads a buffer of a journal's size: tests its header, version and unused slots, and then enters its events.
-pub fn scan_bytes(journal: &[u8; JOURNAL_SIZE]) -> Option<Progress>
-    ensures { result ≡ year_of (read_journal journal.now) }
+// The setup and the number of events of a buffer of a journal's size: tests its header, version and unused slots, and the setup's ranges.
+pub fn head(journal: &[u8; JOURNAL_SIZE]) -> Option<(Setup, usize)>
+    ensures { Headed journal.now result }
 {
     let count = usize::from(journal[COUNT_PLACE]);
     if SLOTS < count {
@@ -39,7 +29,19 @@ pub fn scan_bytes(journal: &[u8; JOURNAL_SIZE]) -> Option<Progress>
     if !(header & version & unused) {
         return None;
     }
-    scan_events(journal, count)
+    let setup = setup_in(journal);
+    if !setup_in_range(setup) {
+        return None;
+    }
+    Some((setup, count))
+}
+
+// Reads a buffer of a journal's size: its head, and then its events one after another.
+pub fn scan_bytes(journal: &[u8; JOURNAL_SIZE]) -> Option<Progress>
+    ensures { result ≡ year_of (read_journal journal.now) }
+{
+    let (setup, count) = head(journal)?;
+    enter_slots(journal, count, Progress::start(setup))
 }
 
 // Reads a whole buffer, whatever its size.
