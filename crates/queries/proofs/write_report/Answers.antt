@@ -1,4 +1,4 @@
-use Rattle.std.proofs.Common.{refl}
+use Rattle.std.proofs.Common.{refl, ◌∙◌}
 use Rattle.progress.proofs.Carried.{as_many}
 use Rattle.reference.specs.Call.{Report}
 use Rattle.queries.proofs.Written.{output_declined, output_room, output_done, year_setup}
@@ -13,7 +13,7 @@ returns-in_err-p c =
 pub print_report-requires : goal.print_report-requires
 print_report-requires c =
     let h = c.in_ok-p.ensures in
-    record { setup = year_setup c.args.journal.now _ h.year; room = output_room Report c.args.journal.now c.args.out.now _ h.year h.refusal _ refl }
+    record { setup = year_setup c.args.journal.now _ h.year; rows = c.as_slice.ensures.value ∙ h.rows; room = output_room Report c.args.journal.now c.args.out.now _ h.year h.refusal _ refl }
 
 pub returns : goal.returns
 returns c =
