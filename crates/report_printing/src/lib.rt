@@ -8,7 +8,8 @@ ghost use Rattle.figures.specs.Running.{running};
 ghost use Rattle.year.specs.declared.Tested.{Tested};
 ghost use Rattle.year.specs.Setup.{Pollutant, Hcnox, Co, setup_in_range};
 ghost use Rattle.year.specs.Replay.{history};
-ghost use Rattle.report.specs.Report.{head_line, row_line, head_of, row_of, engine_lines, report};
+ghost use Rattle.columns.specs.Columns.{columns};
+ghost use Rattle.report.specs.Report.{head_fields, row_fields, head_of, row_of, engine_lines, report};
 
 use buffers::front::put_front;
 use columns::{LINE_SIZE, Line};
@@ -31,19 +32,18 @@ fn head_of(s: Setup) -> Head
     }
 }
 
-// The head line.
+// The head line's columns.
 fn head_line(h: Head) -> Line
     requires volume { h.volume < 100000000 }
     requires days { h.days < 1000 }
     requires periods { h.periods < 10 }
-    ensures written { result ≡ head_line h }
-    ensures size { length result ≡ 61 }
+    ensures written { result ≡ columns (head_fields h) }
+    ensures size { length result ≡ 12 }
 {
     let mut line = Line::new();
     line.figure(8, u64::from(h.volume));
     line.figure(3, u64::from(h.days));
     line.figure(1, u64::from(h.periods));
-    line.end();
     line
 }
 
@@ -66,12 +66,12 @@ fn row_of(x: &Tested, figures: &Pair<Running>) -> Row
     }
 }
 
-// The line of an engine.
+// The columns of an engine's line.
 fn row_line(r: Row) -> Line
     requires hcnox { (r.cumsum.hcnox.low < 10000000000) × (r.cumsum.hcnox.high < 10000000000) }
     requires co { (r.cumsum.co.low < 10000000000) × (r.cumsum.co.high < 10000000000) }
-    ensures written { result ≡ row_line r }
-    ensures size { length result ≡ 61 }
+    ensures written { result ≡ columns (row_fields r) }
+    ensures size { length result ≡ 57 }
 {
     let mut line = Line::new();
     line.figure(5, u64::from(r.number));
@@ -83,7 +83,6 @@ fn row_line(r: Row) -> Line
     line.figure(10, r.cumsum.co.high);
     line.symbol(1, r.marks.hcnox);
     line.symbol(1, r.marks.co);
-    line.end();
     line
 }
 

@@ -5,6 +5,7 @@ use Rattle.year.specs.Setup.{Hcnox, Co}
 use Rattle.engines.proofs.Newest.{rooms}
 use Rattle.report.specs.Report.{row_line}
 use Rattle.report_printing.proofs.Lines.{figures-next, hcnox-fits, co-fits, size-next, lines-next}
+use Rattle.report_printing.proofs.Whole.{whole_row}
 use Rattle.report_printing.proofs.print_engines.Goals as goal
 
 pub loop-x-init : goal.loop-x-init
@@ -43,9 +44,9 @@ loop-x-preserved c =
     let more = take_more xs n _ c.loop-x-test.true in
     let hcnox = rw c.tests.ensures.hcnox at (c.add_tests.ensures.hcnox _ i.hcnox) in
     let co = rw c.tests.ensures.co at (c.add_tests.ensures.co _ i.co) in
-    let copied = c.copy_from_slice.ensures.after ∙ c.as_bytes.ensures in
-    let line = copied ∙ c.row_line-line.ensures.written ∙ ap row_line (c.row_of.ensures _ hcnox co) in
-    let long = ap length copied ∙ c.row_line-line.ensures.size in
+    let copied = c.copy_from_slice.ensures.after in
+    let line = copied ∙ whole_row c.as_bytes.ensures.written _ c.row_line-line.ensures.written ∙ ap row_line (c.row_of.ensures _ hcnox co) in
+    let long = ap length copied ∙ c.as_bytes.ensures.size in
     record {
       hcnox = figures-next xs n _ more Hcnox _ hcnox;
       co = figures-next xs n _ more Co _ co;

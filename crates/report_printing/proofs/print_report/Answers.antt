@@ -5,6 +5,7 @@ use Rattle.year.specs.Replay.{Progress}
 use Rattle.year.proofs.Ranges.{periods-le}
 use Rattle.report.specs.declared.Head.{Head}
 use Rattle.report.specs.Report.{head_line, engine_lines, report}
+use Rattle.report_printing.proofs.Whole.{whole_head}
 use Rattle.report_printing.proofs.print_report.Goals as goal
 
 pub head_line-requires-clause-periods : goal.head_line-requires-clause-periods
@@ -14,9 +15,8 @@ head_line-requires-clause-periods c = omega (arith, ap (λ (h : Head). h.periods
 pub returns : goal.returns
 returns c =
     let out = c.args.out.now in
-    let head = c.as_bytes.ensures ∙ c.head_line.ensures.written ∙ ap head_line c.head_of.ensures in
-    let long = ap length c.as_bytes.ensures ∙ c.head_line.ensures.size in
-    let here : 61 ≡ 0 + length c.as_bytes.result.now = omega (arith, long) in
+    let head = whole_head c.as_bytes.ensures.written _ c.head_line.ensures.written ∙ ap head_line c.head_of.ensures in
+    let here : 61 ≡ 0 + length c.as_bytes.result.now = omega (arith, c.as_bytes.ensures.size) in
     let lines = engine_lines (reverse c.as_slice.result.now) in
     c.print_engines.ensures
     ∙ ap (λ b. put b 61 lines) c.put_front.ensures
