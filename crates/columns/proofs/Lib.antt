@@ -1,3 +1,4 @@
 pub mod Columns
 pub mod Cases
+pub mod Digits
 pub mod Written

@@ -1,7 +1,7 @@
 -- What status and the calls that write an output promise if they are accepted, from what their bodies have computed.
 use mathlib.Core.Path.{◌≡◌, sym, ap, subst, ◌∙◌}
 use mathlib.Core.Bool.{true}
-use mathlib.Core.List.{List, map}
+use mathlib.Core.List.{List}
 use Prim.Native.Nat.{ℕ, ◌+◌, ◌*◌, ◌≤◌}
 use lib.ListN.{length}
 use Rattle.buffers.specs.Bytes.{put}

@@ -72,8 +72,8 @@ fn check_rows(journal: &[u8], rows: &mut Rows) -> Result<Progress, Refusal>
     ensures year { IfOk result (λ p. Some p ≡ year_of (read_journal journal.now)) }
     ensures rows { IfOk result (λ p. rows.new.items ≡ report_rows p.tested) }
 {
-    let journal = journal.as_array().ok_or(Refusal::JournalSize)?;
-    scan_rows(journal, rows).ok_or(Refusal::NotAJournal)
+    let whole = journal.as_array().ok_or(Refusal::JournalSize)?;
+    scan_rows(whole, rows).ok_or(Refusal::NotAJournal)
 }
 
 // Refusals 3, 7 and 18, for an output of this size; otherwise the same.

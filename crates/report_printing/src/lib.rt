@@ -4,7 +4,8 @@
 ghost use Rattle.std.specs.Prelude.{◌≡◌, true, ◌+◌, ◌*◌, ◌≤◌, ◌<◌, length, All};
 ghost use Rattle.buffers.specs.Bytes.{put};
 ghost use Rattle.year.specs.Setup.{setup_in_range};
-ghost use Rattle.report.specs.Report.{head_line, row_line, head_of, report};
+ghost use Rattle.columns.specs.Columns.{columns};
+ghost use Rattle.report.specs.Report.{head_fields, row_fields, head_of, report};
 ghost use Rattle.report_scan.specs.Rows.{report_rows};
 ghost use Rattle.report_printing.specs.Lines.{CumsumFits, row_lines};
 
@@ -26,27 +27,26 @@ fn head_of(s: Setup) -> Head
     }
 }
 
-// The head line.
+// The head line's columns.
 fn head_line(h: Head) -> Line
     requires volume { h.volume < 100000000 }
     requires days { h.days < 1000 }
     requires periods { h.periods < 10 }
-    ensures written { result ≡ head_line h }
-    ensures size { length result ≡ 61 }
+    ensures written { result ≡ columns (head_fields h) }
+    ensures size { length result ≡ 12 }
 {
     let mut line = Line::new();
     line.figure(8, u64::from(h.volume));
     line.figure(3, u64::from(h.days));
     line.figure(1, u64::from(h.periods));
-    line.end();
     line
 }
 
-// The line of an engine.
+// The columns of an engine's line.
 fn row_line(r: Row) -> Line
     requires { CumsumFits r }
-    ensures written { result ≡ row_line r }
-    ensures size { length result ≡ 61 }
+    ensures written { result ≡ columns (row_fields r) }
+    ensures size { length result ≡ 57 }
 {
     let mut line = Line::new();
     line.figure(5, u64::from(r.number));
@@ -58,7 +58,6 @@ fn row_line(r: Row) -> Line
     line.figure(10, r.cumsum.co.high);
     line.symbol(1, r.marks.hcnox);
     line.symbol(1, r.marks.co);
-    line.end();
     line
 }
 

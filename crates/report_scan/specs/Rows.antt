@@ -1,5 +1,5 @@
 -- What the lines of a page show, as they are noted event by event while a journal is scanned.
-use Rattle.std.specs.Prelude.{◌≡◌, List, [], ◌∷◌, ◌++◌, ℕ, ◌≤◌, length}
+use Rattle.std.specs.Prelude.{◌≡◌, List, [], ◌∷◌, ◌++◌}
 use Rattle.year.specs.declared.Tested.{Tested}
 use Rattle.year.specs.declared.Event.{Event}
 use Rattle.year.specs.Replay.{Progress, after}

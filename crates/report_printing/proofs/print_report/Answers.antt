@@ -1,4 +1,4 @@
-use Rattle.std.proofs.Common.{◌≡◌, ℕ, ◌+◌, refl, ap, sym, subst, List, length, All, ◌∙◌, arith}
+use Rattle.std.proofs.Common.{◌≡◌, ◌+◌, refl, ap, sym, subst, List, length, All, ◌∙◌, arith}
 use Rattle.statistics.specs.Ranges.{HistoryInRange}
 use Rattle.buffers.specs.Bytes.{put}
 use Rattle.buffers.proofs.Lists.{put_next, length-put}
@@ -11,6 +11,7 @@ use Rattle.report.specs.Report.{head_line, head_of}
 use Rattle.report_scan.proofs.Noted.{length-rows}
 use Rattle.report_printing.specs.Lines.{CumsumFits, row_lines}
 use Rattle.report_printing.proofs.Lines.{year-lines, rows-fit}
+use Rattle.report_printing.proofs.Whole.{whole_head}
 use Rattle.report_printing.proofs.print_report.Goals as goal
 
 pub head_line-requires-clause-periods : goal.head_line-requires-clause-periods
@@ -23,7 +24,7 @@ print_rows-requires-clause-fits c =
 
 pub print_rows-requires-clause-room : goal.print_rows-requires-clause-room
 print_rows-requires-clause-room c =
-    let long = ap length c.as_bytes.ensures ∙ c.head_line.ensures.size in
+    let long = c.as_bytes.ensures.size in
     let kept = length-put c.args.out.now 0 c.as_bytes.result.now (omega (arith, long, c.requires.room)) in
     omega (arith, ap length c.put_front.ensures, kept, ap length c.requires.rows, length-rows c.args.p.now.tested, c.requires.room)
 
@@ -31,9 +32,8 @@ print_rows-requires-clause-room c =
 pub returns : goal.returns
 returns c =
     let out = c.args.out.now in
-    let head = c.as_bytes.ensures ∙ c.head_line.ensures.written ∙ ap head_line c.head_of.ensures ∙ ap (λ (y : Progress). head_line (head_of y.setup)) c.p.view_is in
-    let long = ap length c.as_bytes.ensures ∙ c.head_line.ensures.size in
-    let here : 61 ≡ 0 + length c.as_bytes.result.now = omega (arith, long) in
+    let head = whole_head c.as_bytes.ensures.written _ c.head_line.ensures.written ∙ ap head_line c.head_of.ensures ∙ ap (λ (y : Progress). head_line (head_of y.setup)) c.p.view_is in
+    let here : 61 ≡ 0 + length c.as_bytes.result.now = omega (arith, c.as_bytes.ensures.size) in
     let lines = ap row_lines c.requires.rows ∙ year-lines c.args.p.now.tested in
     c.print_rows.ensures
     ∙ ap (λ b. put b 61 (row_lines c.args.rows.now)) c.put_front.ensures

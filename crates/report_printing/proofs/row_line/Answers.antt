@@ -1,11 +1,9 @@
 use Rattle.std.proofs.Common.{[], ◌∷◌}
 use Rattle.columns.specs.Columns.{figure, symbol}
-use Rattle.columns.proofs.Written.{next_column, line_done}
-use Rattle.report.specs.Report.{row_fields, row_line}
+use Rattle.columns.proofs.Written.{next_column}
 use Rattle.report_printing.proofs.row_line.Goals as goal
 
 pub returns-clause-written : goal.returns-clause-written
-unfolding row_line
 returns-clause-written c =
     let number = figure 5 c.args.r.number in
     let x = figure 5 c.args.r.results.hcnox in
@@ -24,5 +22,4 @@ returns-clause-written c =
     let of-6 = next_column (number ∷ x ∷ y ∷ x-low ∷ x-high ∷ []) y-low of-5 c.figure-6.ensures.written in
     let of-7 = next_column (number ∷ x ∷ y ∷ x-low ∷ x-high ∷ y-low ∷ []) y-high of-6 c.figure-7.ensures.written in
     let of-8 = next_column (number ∷ x ∷ y ∷ x-low ∷ x-high ∷ y-low ∷ y-high ∷ []) x-mark of-7 c.symbol.ensures.written in
-    let of-9 = next_column (number ∷ x ∷ y ∷ x-low ∷ x-high ∷ y-low ∷ y-high ∷ x-mark ∷ []) y-mark of-8 c.symbol-2.ensures.written in
-    line_done (row_fields c.args.r) of-9 c.end.ensures.written
+    next_column (number ∷ x ∷ y ∷ x-low ∷ x-high ∷ y-low ∷ y-high ∷ x-mark ∷ []) y-mark of-8 c.symbol-2.ensures.written
