@@ -73,7 +73,10 @@ fn answer(journal: &mut [u8], line: &[u8]) -> Text
     ensures shown { result ≡ reply_to line.now journal.old ++ (byte "\n" ∷ []) }
     ensures journal_after { journal.new ≡ journal_after_line line.now journal.old }
 {
-    reply(journal, line).into_line()
+    let mut text = Text::new();
+    reply(journal, line, &mut text);
+    text.put(b"\n");
+    text
 }
 
 // The end of the input: the bytes held, if any, are a last line without newline.

@@ -4,7 +4,7 @@
 ghost use Rattle.std.specs.Prelude.{◌≡◌, ◌≤◌, length};
 ghost use Rattle.protocol.specs.Number.{number_outcome_of};
 ghost use Rattle.protocol.specs.KeyLine.{spaced_number, spaced_outcome, numbers_from};
-ghost use Rattle.numbers.specs.Numbers.{numbers_of, numbers_outcome_of, numbers_outcome};
+ghost use Rattle.numbers.specs.Numbers.{left_in, numbers_of, numbers_outcome_of, numbers_outcome};
 
 use arrayvec::ArrayVec;
 use protocol::Number;
@@ -26,21 +26,21 @@ pub fn spaced_number(line: &[u8], at: usize) -> Option<Number>
     Reader::new(line, at + 1).next_number()
 }
 
-// The numbers after a line's letter, to the line's end.
+// Reads the numbers after a line's letter, to the line's end, into a lent vector, so that they are not copied.
 #[tactic(auto, using(crate::proofs::Sequence::read_none, crate::proofs::Sequence::read_all, crate::proofs::Sequence::outcome_of_line))]
-pub fn read_numbers(line: &[u8]) -> Result<ArrayVec<u32, MOST_NUMBERS>, Refusal>
+pub fn read_numbers(line: &[u8], numbers: &mut ArrayVec<u32, MOST_NUMBERS>) -> Result<(), Refusal>
     requires some_line { 1 ≤ length line.now }
     requires line_size { length line.now ≤ 64 }
-    ensures numbers { result ≡ numbers_of line.now }
-    ensures outcome { numbers_outcome_of result ≡ numbers_outcome line.now }
-    ensures at_most_31 { (numbers_outcome_of result).count ≤ 31 }
+    ensures numbers { left_in result numbers.new ≡ numbers_of line.now }
+    ensures outcome { numbers_outcome_of (left_in result numbers.new) ≡ numbers_outcome line.now }
+    ensures at_most_31 { (numbers_outcome_of (left_in result numbers.new)).count ≤ 31 }
 {
-    let mut numbers = ArrayVec::new();
+    numbers.clear();
     let mut at = 1;
     while at < line.len() {
         let number = spaced_number(line, at).ok_or(Refusal::LineForm)?;
         numbers.push(number.value);
         at = number.next;
     }
-    Ok(numbers)
+    Ok(())
 }

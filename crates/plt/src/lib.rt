@@ -15,6 +15,7 @@ use exports::FIGURE_COUNT;
 use protocol::REPLY_SIZE;
 use queries::{read_status, write_marks, write_report};
 use reference::{EngineEntry, OutputAnswer, OutputOutcome};
+use text::Text;
 use year::Pair;
 
 // No refusal: what a call returns that has no room for its figures.
@@ -32,8 +33,9 @@ pub extern "C" fn plt_command(journal: &mut [u8], line: &[u8], out: &mut [u8]) -
     if out.len() < REPLY_SIZE {
         return 0;
     }
-    let reply = reply(journal, line);
-    let bytes = reply.as_bytes();
+    let mut text = Text::new();
+    reply(journal, line, &mut text);
+    let bytes = text.as_bytes();
     put_front(out, bytes);
     bytes.len()
 }

@@ -1,11 +1,10 @@
 // A reply as it is written: text, numbers, sample sizes and marks, one after another.
 #![tactic(auto)]
 
-ghost use Rattle.std.specs.Prelude.{◌≡◌, [], ◌∷◌, ◌++◌, ◌+◌, ◌≤◌, ◌<◌, length};
+ghost use Rattle.std.specs.Prelude.{◌≡◌, [], ◌∷◌, ◌++◌, ◌+◌, ◌≤◌, length};
 ghost use Rattle.cumsum.specs.Marks.{mark_byte};
 ghost use Rattle.protocol.specs.Reply.{spaced, size_text};
 ghost use Rattle.ascii.specs.Decimal.{decimal};
-ghost use Rattle.ascii.specs.Text.{byte};
 
 use arrayvec::ArrayVec;
 use cumsum::Mark;
@@ -41,6 +40,15 @@ impl Text {
         ensures fits { length result.now ≤ 96 }
     {
         self.bytes.as_slice()
+    }
+
+    // These bytes alone, whatever was put before: the first of a reply.
+    pub fn set(&mut self, bytes: &[u8])
+        requires { length bytes.now ≤ 96 }
+        ensures { self.new ≡ bytes.now }
+    {
+        self.bytes.clear();
+        self.put(bytes);
     }
 
     // All of these bytes.
@@ -80,46 +88,5 @@ impl Text {
         ensures { self.new ≡ self.old ++ spaced (mark_byte hcnox ∷ mark_byte co ∷ []) }
     {
         self.put(&[b' ', u8::from(hcnox), u8::from(co)]);
-    }
-}
-
-// A whole reply: always shorter than 96 bytes, so that its newline fits too.
-#[derive(Drop)]
-pub struct Reply {
-    text: Text,
-}
-
-impl Model for Reply {
-    ghost use Rattle.std.specs.Prelude.{List, ℕ, ◌<◌, length};
-
-    ghost Value = { List ℕ };
-
-    ghost view = { λ r. r.text };
-
-    ghost invariant = { λ r. length r.text < 96 };
-}
-
-impl Reply {
-    pub fn new(text: Text) -> Reply
-        requires { length text < 96 }
-        ensures { result ≡ text }
-    {
-        Reply { text }
-    }
-
-    pub fn as_bytes(&self) -> &[u8]
-        ensures value { result.now ≡ self.now }
-        ensures fits { length result.now < 96 }
-    {
-        self.text.as_bytes()
-    }
-
-    // The reply and a newline.
-    pub fn into_line(self) -> Text
-        ensures { result ≡ self ++ (byte "\n" ∷ []) }
-    {
-        let mut text = self.text;
-        text.put(b"\n");
-        text
     }
 }

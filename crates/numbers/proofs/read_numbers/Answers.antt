@@ -1,5 +1,5 @@
 -- `read_numbers` meets its contract.
-use Rattle.std.proofs.Common.{sym, ◌≡◌, Some, None, lit<, arith}
+use Rattle.std.proofs.Common.{sym, ap, ◌≡◌, Some, None, Err, lit<, arith}
 use Rattle.reference.specs.declared.Refusal.TheVariants.{LineForm}
 use Rattle.reference.proofs.Refused.{handed-on}
 use Rattle.protocol.specs.KeyLine.{spaced_number}
@@ -11,7 +11,8 @@ pub returns-in_err-number-clause-numbers : goal.returns-in_err-number-clause-num
 returns-in_err-number-clause-numbers c =
     let none : spaced_number c.args.line.now c.loop-at.at ≡ None = grind arith in
     let form : c.in_err-number.field-0.0 ≡ LineForm = grind arith in
-    handed-on c.from_residual.ensures.1 (rw form (refused c.args.line.now _ _ c.loop-at.invariant c.loop-at-test.true none))
+    let is : c.from_residual.result ≡ Err LineForm = handed-on c.from_residual.ensures.1 (ap Err form) in
+    rw is (refused c.args.line.now _ _ c.loop-at.invariant c.loop-at-test.true none)
 
 pub returns-in_err-number-clause-outcome : goal.returns-in_err-number-clause-outcome
 returns-in_err-number-clause-outcome c = sym (outcome_of_line c.args.line.now _ (returns-in_err-number-clause-numbers c))
