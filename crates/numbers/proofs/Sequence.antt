@@ -16,7 +16,7 @@ use Rattle.protocol.specs.declared.Number.{Number}
 use Rattle.protocol.specs.Number.{is_number, number_at}
 use Rattle.ascii.specs.Decimal.{digits, spelt}
 use Rattle.protocol.specs.KeyLine.{spaced_number, in_front, numbers_from}
-use Rattle.numbers.specs.Numbers.{read_or_refused, numbers_of, listed, numbers_outcome_of, form_refusal, numbers_outcome}
+use Rattle.numbers.specs.Numbers.{read_or_refused, numbers_of, listed, numbers_outcome_of, form_refusal, numbers_outcome, numbers_read}
 use Rattle.reader.proofs.Spelling.{digits_fit, number_size}
 
 -- a number that can be read ends within the line, at position `least` or after it
@@ -58,9 +58,16 @@ pub record ReadTo (line values : List ℕ) (at : ℕ) : Type 0 where
   pub before : 1 + 2 * length values ≤ at
   pub within : at ≤ length line
   pub read : numbers_from (length line) line 1 ≡ joined values (numbers_from (length line - length values) line at)
+  pub left_so_far : numbers_read (length line) line 1 ≡ values ++ numbers_read (length line - length values) line at
 
 pub read_none : (line : List ℕ) → 1 ≤ length line → ReadTo line [] 1
-read_none line h = record { before = omega arith; within = h; read = rw sub-zero (sym (joined-none (numbers_from (length line) line 1))) }
+read_none line h =
+    record {
+      before = omega arith;
+      within = h;
+      read = rw sub-zero (sym (joined-none (numbers_from (length line) line 1)));
+      left_so_far = rw sub-zero;
+    }
 
 module _ (line values : List ℕ) (at : ℕ) (r : ReadTo line values at) where
   left : length line - length values ≡ suc (length line - (length values + 1))
@@ -69,6 +76,14 @@ module _ (line values : List ℕ) (at : ℕ) (r : ReadTo line values at) where
   all-read : length line ≤ at → numbers_from (length line) line 1 ≡ Some values
   unfolding numbers_from
   all-read h = r.read ∙ rw (left, eq-eqb at (length line) (omega (arith, r.within))) (ap Some (append-nil values))
+
+  -- nothing more is read
+  all-left : numbers_read (length line - length values) line at ≡ [] → values ≡ numbers_read (length line) line 1
+  all-left stop = sym (r.left_so_far ∙ rw stop (append-nil values))
+
+  pub left_at_end : length line ≤ at → values ≡ numbers_read (length line) line 1
+  unfolding numbers_read
+  left_at_end h = all-left (rw (left, eq-eqb at (length line) (omega (arith, r.within))))
 
   pub read_all : length line ≤ at → Ok (record { items = values }) ≡ numbers_of line
   read_all h = rw (all-read h)
@@ -80,6 +95,15 @@ module _ (line values : List ℕ) (at : ℕ) (r : ReadTo line values at) where
 
     pub refused : spaced_number line at ≡ None → Err LineForm ≡ numbers_of line
     refused e = rw (none_read e)
+
+    pub left_refused : spaced_number line at ≡ None → values ≡ numbers_read (length line) line 1
+    unfolding numbers_read
+    left_refused e = all-left (rw (left, ne_eqb at (length line) (λ o. omega arith), e))
+
+    read_more : (n : Number) → spaced_number line at ≡ Some n
+        → numbers_read (length line - length values) line at ≡ n.value ∷ numbers_read (length line - (length values + 1)) line n.next
+    unfolding numbers_read
+    read_more n e = rw (left, ne_eqb at (length line) (λ o. omega arith), e)
 
     one_more : (n : Number) → spaced_number line at ≡ Some n
         → numbers_from (length line - length values) line at ≡ in_front n.value (numbers_from (length line - (length values + 1)) line n.next)
@@ -104,6 +128,9 @@ module _ (line values : List ℕ) (at : ℕ) (r : ReadTo line values at) where
                 before = omega (arith, r.before, ends.0, size);
                 within = ends.1;
                 read = r.read ∙ rw (one_more n e, size) (joined-next values n.value (numbers_from (length line - (length values + 1)) line n.next));
+                left_so_far =
+                    r.left_so_far
+                    ∙ rw (read_more n e, size) (sym (append_assoc values (n.value ∷ []) (numbers_read (length line - (length values + 1)) line n.next)));
               };
         }
 

@@ -1,10 +1,11 @@
 -- What `read_numbers` gives for the numbers of a line (document 01, "Key line").
-use Rattle.std.specs.Prelude.{List, [], ℕ, length, Option, Some, None, Result, Ok, Err}
+use Rattle.std.specs.Prelude.{cond, List, [], ◌∷◌, ℕ, zero, suc, eqb, length, Option, Some, None, Result, Ok, Err}
 use Rattle.arrayvec.specs.ArrayVec.{ArrayVec, array_vec_len}
 use Rattle.reference.specs.Refused.{number_of}
 use Rattle.reference.specs.declared.Refusal.{Refusal}
 use Rattle.reference.specs.declared.Refusal.TheVariants.{LineForm}
-use Rattle.protocol.specs.KeyLine.{numbers_from}
+use Rattle.protocol.specs.declared.Number.{Number}
+use Rattle.protocol.specs.KeyLine.{spaced_number, numbers_from}
 
 -- "if no number can be read there, the line is refused", by "2. The key line is not of the form above."
 abbrev pub read_or_refused : Option (List ℕ) → Result (ArrayVec ℕ) Refusal
@@ -47,3 +48,13 @@ unfoldable pub numbers_outcome : List ℕ → NumbersOutcome
 numbers_outcome line =
     let read = numbers_from (length line) line 1 in
     record { refusal = form_refusal read; count = length (listed read) }
+
+-- the numbers read from a position on, up to the end of the line or to where no number can be read. Document 01 gives no numbers for a refused line; this says
+-- which ones are left in the lent vector
+abbrev pub and_read : Option Number → (ℕ → List ℕ) → List ℕ
+and_read (Some number) more = number.value ∷ more number.next
+and_read None more = []
+
+unfoldable pub numbers_read : ℕ → List ℕ → ℕ → List ℕ
+numbers_read zero line position = []
+numbers_read (suc most) line position = cond (eqb position (length line)) [] (and_read (spaced_number line position) (numbers_read most line))

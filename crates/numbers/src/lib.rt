@@ -4,7 +4,7 @@
 ghost use Rattle.std.specs.Prelude.{◌≡◌, ◌≤◌, length};
 ghost use Rattle.protocol.specs.Number.{number_outcome_of};
 ghost use Rattle.protocol.specs.KeyLine.{spaced_number, spaced_outcome, numbers_from};
-ghost use Rattle.numbers.specs.Numbers.{left_in, numbers_of, numbers_outcome_of, numbers_outcome};
+ghost use Rattle.numbers.specs.Numbers.{left_in, numbers_of, numbers_outcome_of, numbers_outcome, numbers_read};
 
 use arrayvec::ArrayVec;
 use protocol::Number;
@@ -27,13 +27,14 @@ pub fn spaced_number(line: &[u8], at: usize) -> Option<Number>
 }
 
 // Reads the numbers after a line's letter, to the line's end, into a lent vector, so that they are not copied.
-#[tactic(auto, using(crate::proofs::Sequence::read_none, crate::proofs::Sequence::read_all, crate::proofs::Sequence::outcome_of_line))]
+#[tactic(auto, using(crate::proofs::Sequence::read_none, crate::proofs::Sequence::read_all, crate::proofs::Sequence::left_at_end, crate::proofs::Sequence::outcome_of_line))]
 pub fn read_numbers(line: &[u8], numbers: &mut ArrayVec<u32, MOST_NUMBERS>) -> Result<(), Refusal>
     requires some_line { 1 ≤ length line.now }
     requires line_size { length line.now ≤ 64 }
     ensures numbers { left_in result numbers.new ≡ numbers_of line.now }
     ensures outcome { numbers_outcome_of (left_in result numbers.new) ≡ numbers_outcome line.now }
     ensures at_most_31 { (numbers_outcome_of (left_in result numbers.new)).count ≤ 31 }
+    ensures values_after { numbers.new.items ≡ numbers_read (length line.now) line.now 1 }
 {
     numbers.clear();
     let mut at = 1;

@@ -3,19 +3,24 @@ use Rattle.std.proofs.Common.{sym, ap, ◌≡◌, Some, None, Err, lit<, arith}
 use Rattle.reference.specs.declared.Refusal.TheVariants.{LineForm}
 use Rattle.reference.proofs.Refused.{handed-on}
 use Rattle.protocol.specs.KeyLine.{spaced_number}
-use Rattle.numbers.proofs.Sequence.{refused, Next, read_next, outcome_of_line}
+use Rattle.numbers.proofs.Sequence.{refused, left_refused, Next, read_next, outcome_of_line}
 use Rattle.numbers.proofs.read_numbers.Goals as goal
 
 -- the rest of the line has no number at `at`
+none-found : (c : goal.After-from_residual) → spaced_number c.args.line.now c.loop-at.at ≡ None
+none-found c = grind arith
+
 pub returns-in_err-number-clause-numbers : goal.returns-in_err-number-clause-numbers
 returns-in_err-number-clause-numbers c =
-    let none : spaced_number c.args.line.now c.loop-at.at ≡ None = grind arith in
     let form : c.in_err-number.field-0.0 ≡ LineForm = grind arith in
     let is : c.from_residual.result ≡ Err LineForm = handed-on c.from_residual.ensures.1 (ap Err form) in
-    rw is (refused c.args.line.now _ _ c.loop-at.invariant c.loop-at-test.true none)
+    rw is (refused c.args.line.now _ _ c.loop-at.invariant c.loop-at-test.true (none-found c))
 
 pub returns-in_err-number-clause-outcome : goal.returns-in_err-number-clause-outcome
 returns-in_err-number-clause-outcome c = sym (outcome_of_line c.args.line.now _ (returns-in_err-number-clause-numbers c))
+
+pub returns-in_err-number-clause-values_after : goal.returns-in_err-number-clause-values_after
+returns-in_err-number-clause-values_after c = left_refused c.args.line.now _ _ c.loop-at.invariant c.loop-at-test.true (none-found c)
 
 -- a number was found, and there is room for it
 pub push-requires : goal.push-requires
