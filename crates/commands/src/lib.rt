@@ -2,9 +2,9 @@
 // every byte of it.
 #![tactic(auto)]
 
-ghost use Rattle.std.specs.Prelude.{◌≡◌, ◌<◌, length, OnOk, IfErr};
-ghost use Rattle.reference.specs.Refused.{number_of};
-ghost use Rattle.protocol.specs.Reply.{refusal_reply, reply_to, journal_after_line};
+ghost use Rattle.std.specs.Prelude.{◌≡◌, ◌<◌, length, OnOk};
+ghost use Rattle.reference.specs.Refused.{left_in};
+ghost use Rattle.protocol.specs.Reply.{reply_to, journal_after_line, replied};
 
 use arrayvec::ArrayVec;
 use dispatch::carry_out;
@@ -18,9 +18,8 @@ use text::Text;
 // Makes the call that a line asks for, and writes its reply. A line of more than 64 bytes is refused by 1, and an empty one, which has no letter, by 2.
 #[tactic(auto, using(crate::proofs::Lines::long_line, crate::proofs::Lines::empty_line, crate::proofs::Lines::letter_and_numbers, crate::proofs::Lines::refused_line), unfolding(protocol::specs::Reply::reply_to, protocol::specs::Reply::journal_after_line))]
 fn carry_out_line(journal: &mut [u8], line: &[u8], text: &mut Text) -> Result<(), Refusal>
-    ensures reply { OnOk result (text.new ≡ reply_to line.now journal.old) }
+    ensures reply { replied (left_in result text.new) ≡ reply_to line.now journal.old }
     ensures short { OnOk result (length text.new < 96) }
-    ensures refusal { IfErr result (λ refusal. refusal_reply (number_of refusal) ≡ reply_to line.now journal.old) }
     ensures journal_after { journal.new ≡ journal_after_line line.now journal.old }
 {
     if line.len() > LINE_SIZE {

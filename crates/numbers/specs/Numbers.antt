@@ -16,12 +16,6 @@ read_or_refused None = Err LineForm
 abbrev pub numbers_of : List ℕ → Result (ArrayVec ℕ) Refusal
 numbers_of line = read_or_refused (numbers_from (length line) line 1)
 
--- what is read into a lent vector: the numbers that it then holds, or the refusal
-module _ {A : Type 0} where
-  abbrev pub left_in : Result A Refusal → ArrayVec ℕ → Result (ArrayVec ℕ) Refusal
-  left_in (Ok done) numbers = Ok numbers
-  left_in (Err refusal) numbers = Err refusal
-
 -- the numbers read; none for a refused line
 abbrev pub listed : Option (List ℕ) → List ℕ
 listed (Some vs) = vs

@@ -2,9 +2,10 @@
 #![tactic(auto)]
 
 ghost use Rattle.std.specs.Prelude.{◌≡◌, ◌≤◌, length};
+ghost use Rattle.reference.specs.Refused.{left_in};
 ghost use Rattle.protocol.specs.Number.{number_outcome_of};
 ghost use Rattle.protocol.specs.KeyLine.{spaced_number, spaced_outcome, numbers_from};
-ghost use Rattle.numbers.specs.Numbers.{left_in, numbers_of, numbers_outcome_of, numbers_outcome, numbers_read};
+ghost use Rattle.numbers.specs.Numbers.{numbers_of, numbers_outcome_of, numbers_outcome, numbers_read};
 
 use arrayvec::ArrayVec;
 use protocol::Number;

@@ -55,6 +55,12 @@ module _ {A : Type 0} where
   abbrev pub unless_refused : ℕ → A → Result A Refusal
   unless_refused number value = cond (eqb number 0) (Ok value) (Err (named number))
 
+module _ {A B : Type 0} where
+  -- what a call gives back that writes its value into a lent place: the value left there, or the refusal
+  abbrev pub left_in : Result A Refusal → B → Result B Refusal
+  left_in (Ok done) value = Ok value
+  left_in (Err refusal) value = Err refusal
+
 -- a name for each number, and a number for each name
 pub record Named : Type 0 where
   pub number : (n : ℕ) → 1 ≤ n → n ≤ 18 → number_of (named n) ≡ n
