@@ -3,7 +3,7 @@
 
 ghost use Rattle.std.specs.Prelude.{◌≡◌, ◌≤◌, length};
 ghost use Rattle.buffers.specs.Bytes.{put};
-ghost use Rattle.reference.specs.Answers.{outcome_of};
+ghost use Rattle.reference.specs.Answers.{outcome_of, no_status};
 ghost use Rattle.exports.specs.Numbers.{pollutant_numbers, status_numbers};
 
 use exports::FIGURE_COUNT;
@@ -49,12 +49,27 @@ fn put_status(numbers: &mut [u64], s: Status)
     numbers[..FIGURE_COUNT].copy_from_slice(&status_numbers(s));
 }
 
+// Puts the figures of a call that is refused by this number, whatever it is, and returns it: they are all blank.
+pub fn put_refused(numbers: &mut [u64], number: u8) -> u8
+    requires { 20 ≤ length numbers.old }
+    ensures refusal { result ≡ number }
+    ensures numbers_after { numbers.new ≡ put numbers.old 0 (status_numbers no_status) }
+{
+    put_status(numbers, Status::default());
+    number
+}
+
 // Puts the numbers of an answer at the front of a lent slice, and returns its refusal, 0 for none.
 pub fn put_answer(numbers: &mut [u64], answer: Answer) -> u8
     requires { 20 ≤ length numbers.old }
     ensures refusal { result ≡ (outcome_of answer).refusal }
     ensures numbers_after { numbers.new ≡ put numbers.old 0 (status_numbers (outcome_of answer).status) }
 {
-    put_status(numbers, answer.unwrap_or_default());
-    answer.err().map_or(0, u8::from)
+    match answer {
+        Ok(s) => {
+            put_status(numbers, s);
+            0
+        }
+        Err(refusal) => put_refused(numbers, u8::from(refusal)),
+    }
 }
