@@ -1,6 +1,6 @@
 #!/usr/bin/env python3
 """Checks that what the documents cite exists: every back-quoted text outside a fenced block is found in the tree, or stands on the list below; every link leads to
-a file, and to a heading of it; and the table of the crates in docs/ARCHITECTURE.md is complete. docs/PORT.md and docs/DESIGN-PASS.md are
+a file, and to a heading of it; and the table of the crates in docs/ARCHITECTURE.md is complete. docs/PORT.md, docs/DESIGN-PASS.md and docs/LOOK-BACK.md are
 left out, since they name what is gone.
 
 Run from the repository's root. Forms of a citation:
@@ -18,7 +18,7 @@ import re
 import sys
 from glob import glob
 
-DOCUMENTS = ['README.md', 'CONTRIBUTING.md', 'examples/README.md', 'tests/cross/README.md'] + sorted(set(glob('docs/**/*.md', recursive=True)) - {'docs/PORT.md', 'docs/DESIGN-PASS.md'})
+DOCUMENTS = ['README.md', 'CONTRIBUTING.md', 'examples/README.md', 'tests/cross/README.md'] + sorted(set(glob('docs/**/*.md', recursive=True)) - {'docs/PORT.md', 'docs/DESIGN-PASS.md', 'docs/LOOK-BACK.md'})
 
 # What is cited and is nothing of the tree: the language, options and commands, the keys' letters, C, what is built.
 ALLOWED = {'&&', '||', '-', '&mut', '&mut u8', 'let', 'let .. else', 'requires', 'crate::module::function', '--calls', '--names', '--case', 'S', 'E', 'T', 'A', 'P', 'X',
