@@ -6,11 +6,13 @@ ghost use Rattle.conditions.specs.Rows.{first};
 ghost use Rattle.reference.specs.Call.{EnterChange};
 ghost use Rattle.reference.specs.Refused.{refused};
 ghost use Rattle.refusals.specs.Parts.{standards_rows};
+ghost use Rattle.refusals.specs.Decisions.{decision_on};
 ghost use Rattle.change_decision.specs.Changes.{change_decision};
 
 use admission::{deletion_fits, period_fits};
 use progress::Progress;
 use reference::{Change, Refusal};
+use refusals::entry_refusal;
 use schedule::standards_in_range;
 use year::Event;
 
@@ -33,4 +35,13 @@ pub fn change(p: &Progress, c: Change) -> Result<Event, Refusal>
         Change::BeginPeriod if !period_fits(p) => Err(Refusal::NoNextPeriod),
         _ => Ok(Event::from(c)),
     }
+}
+
+// The decision on a change on a journal of any length and content: the first refusal of the whole table, or the event that its entry would add.
+pub fn decide(journal: &[u8], c: Change) -> Result<Event, Refusal>
+    ensures { result ≡ decision_on (EnterChange c) journal.now }
+{
+    let unfit = check_standards(c).is_err();
+    let year = entry_refusal(journal, unfit)?;
+    change(&year, c)
 }

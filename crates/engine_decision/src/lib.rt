@@ -5,7 +5,9 @@ mod readings;
 
 ghost use Rattle.std.specs.Prelude.{◌≡◌};
 ghost use Rattle.conditions.specs.Rows.{first};
+ghost use Rattle.reference.specs.Call.{entry_of};
 ghost use Rattle.reference.specs.Refused.{refused};
+ghost use Rattle.refusals.specs.Decisions.{decision_on};
 ghost use Rattle.engine_decision.specs.Given.{given};
 ghost use Rattle.engine_decision.specs.Rows.{asked_rows, worked_rows, engine_decision};
 
@@ -14,6 +16,7 @@ use admission::number_in_range;
 use engines::lookup::is_tested;
 use progress::Progress;
 use reference::{EngineEntry, Refusal};
+use refusals::entry_refusal;
 use results::{result_in_range, result_of};
 use year::{Event, MOST_ENGINES, Pair};
 
@@ -62,4 +65,12 @@ pub fn engine(p: &Progress, engine: &EngineEntry<'_>) -> Result<Event, Refusal>
         readings: engine.readings.hcnox.len() as u32,
         results: results.map(|x| x as u32),
     })
+}
+
+// The decision on an engine on a journal of any length and content: the first refusal of the whole table, or the event that its entry would add.
+pub fn decide(journal: &[u8], entry: &EngineEntry<'_>) -> Result<Event, Refusal>
+    ensures { result ≡ decision_on (entry_of entry.now) journal.now }
+{
+    let year = entry_refusal(journal, false)?;
+    engine(&year, entry)
 }

@@ -1,6 +1,6 @@
 -- The rows of the table of refusals that entries share, in the parts in which the code tests them once it knows the buffer's size. proofs/Decided proves that
 -- these are rows of `refusals`, in its order.
-use Rattle.std.specs.Prelude.{not, List, [], ◌∷◌, ℕ}
+use Rattle.std.specs.Prelude.{Bool, not, List, [], ◌∷◌, ℕ, eqb, length}
 use Rattle.conditions.specs.Rows.{Row}
 use Rattle.year.specs.Setup.{standards_in_range}
 use Rattle.year.specs.Admissible.{closed, events_full}
@@ -9,8 +9,11 @@ use Rattle.journal.specs.Read.{read_journal}
 use Rattle.reference.specs.Call.{Entry, of_change, of_amendment}
 
 -- 5, for an amendment
+abbrev pub unfit_standards : Entry → Bool
+unfit_standards = of_change (of_amendment (λ standards. not (standards_in_range standards)))
+
 abbrev pub standards_rows : Entry → List Row
-standards_rows entry = (of_change (of_amendment (λ standards. not (standards_in_range standards))) entry, 5) ∷ []
+standards_rows entry = (unfit_standards entry, 5) ∷ []
 
 -- 7, 8 and 9, for every entry
 abbrev pub year_rows : List ℕ → List Row
@@ -19,3 +22,7 @@ year_rows journal =
     ∷ (of_year closed (read_journal journal), 8)
     ∷ (of_year events_full (read_journal journal), 9)
     ∷ []
+
+-- the rows that can apply to every entry, on a buffer of any size: 3, 7, 8 and 9, and in its place in the order 5, which applies if an amendment's standards are unfit
+abbrev pub entry_rows : Bool → List ℕ → List Row
+entry_rows unfit journal = (not (eqb (length journal) 544), 3) ∷ (unfit, 5) ∷ year_rows journal

@@ -12,7 +12,7 @@ ghost use Rattle.reference.specs.Refusals.{refusal};
 ghost use Rattle.reference.specs.Refused.{refused};
 ghost use Rattle.reference.specs.Answers.{refusal_on};
 ghost use Rattle.slots.specs.Scanned.{year_of};
-ghost use Rattle.refusals.specs.Parts.{year_rows};
+ghost use Rattle.refusals.specs.Parts.{year_rows, entry_rows};
 
 use columns::LINE_SIZE;
 use journal::JOURNAL_SIZE;
@@ -39,6 +39,17 @@ pub fn check_setup(s: Setup) -> Result<(), Refusal>
         return Err(Refusal::FactorRange);
     }
     Ok(())
+}
+
+// Refusals 3, 4, 5 and 6, for a setup on a buffer of any size.
+#[tactic(auto, unfolding(reference::specs::Refusals::refusal, reference::specs::Refusals::refusals))]
+pub fn setup_refusal(journal: &[u8], s: Setup) -> Result<(), Refusal>
+    ensures { refused result ≡ refusal_on (SetUp s) journal.now }
+{
+    if journal.len() != JOURNAL_SIZE {
+        return Err(Refusal::JournalSize);
+    }
+    check_setup(s)
 }
 
 // Refusals 3 and 7; otherwise the year that the journal holds.
@@ -105,4 +116,17 @@ pub fn open_year(journal: &[u8; JOURNAL_SIZE]) -> Result<Progress, Refusal>
         return Err(Refusal::EventsFull);
     }
     Ok(p)
+}
+
+// Refusals 3, 7, 8 and 9, which can apply to every entry, on a buffer of any size, and in its place in the order 5, which applies if an amendment's standards are
+// unfit; otherwise the year that the journal holds.
+pub fn entry_refusal(journal: &[u8], unfit: bool) -> Result<Progress, Refusal>
+    ensures refusal { refused result ≡ first (entry_rows unfit journal.now) 0 }
+    ensures year { IfOk result (λ p. Some p ≡ year_of (read_journal journal.now)) }
+{
+    let whole = journal.as_array().ok_or(Refusal::JournalSize)?;
+    if unfit {
+        return Err(Refusal::StandardRange);
+    }
+    open_year(whole)
 }
