@@ -1,10 +1,8 @@
 // What a line asks for.
-use anyhow::bail;
-use results::{count_in_range, result_of};
+use results::result_of;
 use rounding::Factor;
 use schedule::{needs, one_percent, periods};
-use std::alloc::Global;
-use test_lines::numbers::letter_and_numbers;
+use test_lines::numbers::{MOST_NUMBERS, setup_numbers};
 use year::{Event, Pair, Setup};
 
 #[derive(Clone, Copy)]
@@ -19,39 +17,44 @@ pub enum Line {
     Enter(Event),
     // the figures, also computed anew at this resolution
     Figures(u32),
+    // nothing
+    Nothing,
 }
 
 impl Line {
-    pub fn parse(alloc: Global, line: &str) -> anyhow::Result<Line> {
-        let (letter, numbers) = letter_and_numbers(alloc, line)?;
-        Ok(match (letter, numbers.as_slice()) {
-            (".", []) => Line::End,
-            ("r", &[kind, value, _, ref readings @ ..]) => Line::Number(rounded(
-                kind, value, readings,
-            )?),
-            ("d", &[volume, days]) => Line::Number(u64::from(periods(volume, days))),
-            ("n", &[period]) => Line::Number(u64::from(needs(period))),
-            ("c", &[volume]) => Line::Number(one_percent(volume)),
-            ("S", setup) => Line::Begin(Setup::from(<[u32; 8]>::try_from(setup)?)),
-            ("E", &[number, readings, hcnox, co]) => Line::Enter(Event::Engine {
-                number,
-                readings,
-                results: Pair { hcnox, co },
+    // A line by its letter and its numbers.
+    pub fn parse(letter: u8, numbers: &[u32; MOST_NUMBERS]) -> Line {
+        let &[a, b, c, d, ..] = numbers;
+        match letter {
+            b'.' => Line::End,
+            b'r' => Line::Number(rounded(numbers)),
+            b'd' => Line::Number(u64::from(periods(a, b))),
+            b'n' => Line::Number(u64::from(needs(a))),
+            b'c' => Line::Number(one_percent(a)),
+            b'S' => Line::Begin(Setup::from(setup_numbers(numbers))),
+            b'E' => Line::Enter(Event::Engine {
+                number: a,
+                readings: b,
+                results: Pair { hcnox: c, co: d },
             }),
-            ("A", &[hcnox, co]) => Line::Enter(Event::Amendment(Pair { hcnox, co })),
-            ("P", []) => Line::Enter(Event::NextPeriod),
-            ("X", []) => Line::Enter(Event::Declaration),
-            ("Z", []) => Line::Enter(Event::Deletion),
-            ("F", &[resolution]) => Line::Figures(resolution),
-            _ => bail!("no such line: {line}"),
-        })
+            b'A' => Line::Enter(Event::Amendment(Pair { hcnox: a, co: b })),
+            b'P' => Line::Enter(Event::NextPeriod),
+            b'X' => Line::Enter(Event::Declaration),
+            b'Z' => Line::Enter(Event::Deletion),
+            b'F' => Line::Figures(a),
+            _ => Line::Nothing,
+        }
     }
 }
 
-// The result of an engine's readings under a factor.
-fn rounded(kind: u32, value: u32, readings: &[u32]) -> anyhow::Result<u64> {
-    if !count_in_range(readings.len()) {
-        bail!("{} readings", readings.len());
-    }
-    Ok(result_of(Factor { kind, value }, readings))
+// The result of a factor's kind and value and of one, two or, for any other count, three readings.
+fn rounded(numbers: &[u32; MOST_NUMBERS]) -> u64 {
+    let &[kind, value, count, a, b, c, ..] = numbers;
+    let readings = [a, b, c];
+    let count = match count {
+        1 => 1,
+        2 => 2,
+        _ => 3,
+    };
+    result_of(Factor { kind, value }, &readings[..count])
 }
