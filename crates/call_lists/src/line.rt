@@ -1,8 +1,8 @@
 // What a line asks for.
 use crate::calls::Call;
 use reference::{Change, EngineEntry};
-use test_lines::numbers::{MOST_NUMBERS, setup_numbers};
-use year::{Pair, Setup};
+use test_lines::numbers::{MOST_NUMBERS, setup_of};
+use year::Pair;
 
 // The most readings of an engine for each pollutant; a larger count is taken for this one.
 const MOST_READINGS: usize = 8;
@@ -25,20 +25,19 @@ pub enum Line<'a> {
 impl Line<'_> {
     // A line by its letter and its numbers. A letter that no other line has is that of a status.
     pub fn parse(letter: u8, numbers: &[u32; MOST_NUMBERS]) -> Line<'_> {
-        let &[a, b, ..] = numbers;
-        match letter {
-            b'B' => Line::Lend(a as usize),
-            b'N' => Line::Clear,
-            b'W' => Line::Write(a as usize, (b % 256) as u8),
-            b'L' => Line::Strip(a as usize),
-            b'G' => Line::Report(a as usize),
-            b'S' => Line::Call(Call::SetUp(Setup::from(setup_numbers(numbers)))),
-            b'E' => Line::Call(Call::Engine(engine(numbers))),
-            b'T' => Line::Call(Call::Preview(engine(numbers))),
-            b'A' => Line::Call(Call::Change(Change::Amend(Pair { hcnox: a, co: b }))),
-            b'P' => Line::Call(Call::Change(Change::BeginPeriod)),
-            b'X' => Line::Call(Call::Change(Change::Declare)),
-            b'Z' => Line::Call(Call::Change(Change::Delete)),
+        match (letter, numbers) {
+            (b'B', &[size, ..]) => Line::Lend(size as usize),
+            (b'N', _) => Line::Clear,
+            (b'W', &[place, byte, ..]) => Line::Write(place as usize, (byte % 256) as u8),
+            (b'L', &[size, ..]) => Line::Strip(size as usize),
+            (b'G', &[size, ..]) => Line::Report(size as usize),
+            (b'S', _) => Line::Call(Call::SetUp(setup_of(numbers))),
+            (b'E', _) => Line::Call(Call::Engine(engine(numbers))),
+            (b'T', _) => Line::Call(Call::Preview(engine(numbers))),
+            (b'A', &[hcnox, co, ..]) => Line::Call(Call::Change(Change::Amend(Pair { hcnox, co }))),
+            (b'P', _) => Line::Call(Call::Change(Change::BeginPeriod)),
+            (b'X', _) => Line::Call(Call::Change(Change::Declare)),
+            (b'Z', _) => Line::Call(Call::Change(Change::Delete)),
             _ => Line::Call(Call::Status),
         }
     }
@@ -46,11 +45,12 @@ impl Line<'_> {
 
 // An engine's number, how many readings it has for each pollutant, and the readings.
 fn engine(numbers: &[u32; MOST_NUMBERS]) -> EngineEntry<'_> {
-    let hcnox = (numbers[1] as usize).min(MOST_READINGS);
-    let co = (numbers[2] as usize).min(MOST_READINGS);
+    let &[number, hcnox, co, ..] = numbers;
     let readings = &numbers[3..];
+    let hcnox = (hcnox as usize).min(MOST_READINGS);
+    let co = (co as usize).min(MOST_READINGS);
     EngineEntry {
-        number: numbers[0],
+        number,
         readings: Pair {
             hcnox: &readings[..hcnox],
             co: &readings[hcnox..hcnox + co],

@@ -1,8 +1,10 @@
 // The numbers of a line.
 ghost use Rattle.std.specs.Prelude.{◌≡◌, take, drop, replicate};
+ghost use Rattle.year.specs.Setup.{setup_of};
 ghost use Rattle.test_lines.specs.Numbers.{with_digit, read_on};
 
 use crate::input::words;
+use year::Setup;
 
 // The most numbers that a line gives: an engine's number, two counts of readings and sixteen readings. Further ones are not looked at.
 pub const MOST_NUMBERS: usize = 19;
@@ -31,10 +33,29 @@ pub fn numbers(line: &[u8]) -> [u32; MOST_NUMBERS]
     numbers
 }
 
-// The first eight numbers of a line, which are those of a setup.
-pub fn setup_numbers(numbers: &[u32; MOST_NUMBERS]) -> [u32; 8]
-    ensures { result ≡ take 8 numbers.now }
+// The setup from the first eight numbers of a line.
+pub fn setup_of(numbers: &[u32; MOST_NUMBERS]) -> Setup
+    ensures { result ≡ setup_of (take 8 numbers.now) }
 {
-    let &[volume, days, hcnox, co, a, b, c, d, ..] = numbers;
-    [volume, days, hcnox, co, a, b, c, d]
+    let &[
+        volume,
+        days,
+        hcnox,
+        co,
+        hcnox_kind,
+        hcnox_value,
+        co_kind,
+        co_value,
+        ..
+    ] = numbers;
+    Setup::from([
+        volume,
+        days,
+        hcnox,
+        co,
+        hcnox_kind,
+        hcnox_value,
+        co_kind,
+        co_value,
+    ])
 }

@@ -2,7 +2,7 @@
 use results::result_of;
 use rounding::Factor;
 use schedule::{needs, one_percent, periods};
-use test_lines::numbers::{MOST_NUMBERS, setup_numbers};
+use test_lines::numbers::{MOST_NUMBERS, setup_of};
 use year::{Event, Pair, Setup};
 
 #[derive(Clone, Copy)]
@@ -24,37 +24,38 @@ pub enum Line {
 impl Line {
     // A line by its letter and its numbers.
     pub fn parse(letter: u8, numbers: &[u32; MOST_NUMBERS]) -> Line {
-        let &[a, b, c, d, ..] = numbers;
-        match letter {
-            b'.' => Line::End,
-            b'r' => Line::Number(rounded(numbers)),
-            b'd' => Line::Number(u64::from(periods(a, b))),
-            b'n' => Line::Number(u64::from(needs(a))),
-            b'c' => Line::Number(one_percent(a)),
-            b'S' => Line::Begin(Setup::from(setup_numbers(numbers))),
-            b'E' => Line::Enter(Event::Engine {
-                number: a,
-                readings: b,
-                results: Pair { hcnox: c, co: d },
+        match (letter, numbers) {
+            (b'.', _) => Line::End,
+            (b'r', &[kind, value, count, first, second, third, ..]) => Line::Number(rounded(
+                Factor { kind, value },
+                count,
+                &[first, second, third],
+            )),
+            (b'd', &[volume, days, ..]) => Line::Number(u64::from(periods(volume, days))),
+            (b'n', &[period, ..]) => Line::Number(u64::from(needs(period))),
+            (b'c', &[volume, ..]) => Line::Number(one_percent(volume)),
+            (b'S', _) => Line::Begin(setup_of(numbers)),
+            (b'E', &[number, readings, hcnox, co, ..]) => Line::Enter(Event::Engine {
+                number,
+                readings,
+                results: Pair { hcnox, co },
             }),
-            b'A' => Line::Enter(Event::Amendment(Pair { hcnox: a, co: b })),
-            b'P' => Line::Enter(Event::NextPeriod),
-            b'X' => Line::Enter(Event::Declaration),
-            b'Z' => Line::Enter(Event::Deletion),
-            b'F' => Line::Figures(a),
+            (b'A', &[hcnox, co, ..]) => Line::Enter(Event::Amendment(Pair { hcnox, co })),
+            (b'P', _) => Line::Enter(Event::NextPeriod),
+            (b'X', _) => Line::Enter(Event::Declaration),
+            (b'Z', _) => Line::Enter(Event::Deletion),
+            (b'F', &[resolution, ..]) => Line::Figures(resolution),
             _ => Line::Nothing,
         }
     }
 }
 
-// The result of a factor's kind and value and of one, two or, for any other count, three readings.
-fn rounded(numbers: &[u32; MOST_NUMBERS]) -> u64 {
-    let &[kind, value, count, a, b, c, ..] = numbers;
-    let readings = [a, b, c];
+// The result of one, two or, for any other count, three readings.
+fn rounded(factor: Factor, count: u32, readings: &[u32; 3]) -> u64 {
     let count = match count {
         1 => 1,
         2 => 2,
         _ => 3,
     };
-    result_of(Factor { kind, value }, &readings[..count])
+    result_of(factor, &readings[..count])
 }
