@@ -1,5 +1,5 @@
 // Lines of the input.
-ghost use Rattle.std.specs.Prelude.{◌≡◌, ◌≢◌, All, drop};
+ghost use Rattle.std.specs.Prelude.{◌≡◌, ◌≢◌, ◌≤◌, All, drop, length};
 
 use arrayvec::ArrayVec;
 use std::io::BufRead;
@@ -18,7 +18,8 @@ fn next_byte<I: BufRead>(input: &mut I) -> u8 {
 
 // The next line, without its newline. It is empty at the end of the input too.
 pub fn read_line<I: BufRead>(input: &mut I) -> ArrayVec<u8, LINE_SIZE>
-    ensures { All (λ byte. byte ≢ 10) result.items }
+    ensures one_line { All (λ byte. byte ≢ 10) result.items }
+    ensures at_most { length result.items ≤ 256 }
 {
     let mut line = ArrayVec::new();
     for _ in 0..LINE_SIZE {
