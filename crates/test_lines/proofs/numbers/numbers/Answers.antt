@@ -1,5 +1,5 @@
 -- A space; a digit of a number; a digit past the numbers that are looked at.
-use Rattle.std.proofs.Common.{rules, ◌≡◌, ◌≤◌, ◌<◌, ◌+◌, ◌∙◌, sym, arith, length}
+use Rattle.std.proofs.Common.{rules, ◌<◌, ◌∙◌, sym, arith, length}
 use Rattle.std.proofs.lemmas.List.{length-set}
 use Rattle.test_lines.proofs.Reading.{space_read, digit_read, past_read}
 use Rattle.test_lines.proofs.numbers.numbers.Goals.{then-byte-eq32, else-byte-eq32+then-place-lt-MOST_NUMBERS, else-byte-eq32+else-place-lt-MOST_NUMBERS}
