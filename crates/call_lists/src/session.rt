@@ -1,12 +1,12 @@
 // A journal, and the lines carried out on it.
-use crate::calls::{Call, write_answer};
+use crate::calls::{Call, print_answer};
 use crate::line::Line;
 use journal::JOURNAL_SIZE;
 use queries::{marks, report, write_marks, write_report};
 use reference::OutputOutcome;
-use std::alloc::Global;
-use std::io::{self, Write};
+use std::io;
 use std::marker::Model;
+use test_lines::numbers::numbers;
 use test_lines::{ROOM, digested};
 
 // The most bytes that a strip is lent.
@@ -40,19 +40,19 @@ fn digest(bytes: &[u8]) -> u64 {
 }
 
 // The second form of the marks: the refusal, and the part handed back.
-fn hand_back<W: Write>(out: &mut W, journal: &[u8], strip: &mut [u8]) -> io::Result<()> {
+fn hand_back<P: Print>(rt: &P, journal: &[u8], strip: &mut [u8]) -> io::Result<()> {
     let mut refusal = 255;
     let part = marks(journal, strip, &mut refusal);
-    write!(out, " {refusal} |")?;
-    out.write_all(part)?;
-    write!(out, "|")
+    print!(rt; " {refusal} |")?;
+    rt.write_all(part)?;
+    print!(rt; "|")
 }
 
 // The second form of the wall page: the refusal, and the length and a digest of the part handed back.
-fn hand_back_report<W: Write>(out: &mut W, journal: &[u8], page: &mut [u8]) -> io::Result<()> {
+fn hand_back_report<P: Print>(rt: &P, journal: &[u8], page: &mut [u8]) -> io::Result<()> {
     let mut refusal = 255;
     let part = report(journal, page, &mut refusal);
-    write!(out, " {refusal} {} {}", part.len(), digest(part))
+    print!(rt; " {refusal} {} {}", part.len(), digest(part))
 }
 
 impl Session {
@@ -63,19 +63,22 @@ impl Session {
         }
     }
 
-    // Carries out a line.
-    pub fn obey<W: Write>(&mut self, out: &mut W, alloc: Global, line: &str) -> anyhow::Result<()> {
-        if line.starts_with('#') {
-            writeln!(out, "{line}")?;
+    // Carries out a line; an empty one asks for nothing. A title begins with #, and is printed.
+    pub fn obey<P: Print>(&mut self, rt: &P, line: &[u8]) -> io::Result<()> {
+        let Some(&letter) = line.first() else {
             return Ok(());
+        };
+        if letter == b'#' {
+            rt.write_all(line)?;
+            return println!(rt; "");
         }
-        match Line::parse(alloc, line)? {
+        match Line::parse(letter, &numbers(line)) {
             Line::Lend(size) => self.lent = size.min(ROOM),
             Line::Clear => self.journal.fill(0),
             Line::Write(place, byte) => self.write(place, byte),
-            Line::Strip(size) => self.strip(out, size)?,
-            Line::Report(size) => self.report(out, size)?,
-            Line::Call(call) => self.call(out, &call)?,
+            Line::Strip(size) => self.strip(rt, size)?,
+            Line::Report(size) => self.report(rt, size)?,
+            Line::Call(call) => self.call(rt, call)?,
         }
         Ok(())
     }
@@ -87,38 +90,38 @@ impl Session {
     }
 
     // The answer, and a digest of all 560 bytes.
-    fn call<W: Write>(&mut self, out: &mut W, call: &Call) -> io::Result<()> {
+    fn call<P: Print>(&mut self, rt: &P, call: Call<'_>) -> io::Result<()> {
         let lent = self.lent;
         let answer = call.make(&mut self.journal[..lent]);
-        write_answer(out, answer)?;
-        writeln!(out, " {}", digest(&self.journal))
+        print_answer(rt, answer)?;
+        println!(rt; " {}", digest(&self.journal))
     }
 
     // Both forms of the marks, each into an array of dots: the refusal, the length and the whole array; the refusal, the part handed back and a digest of the
     // array; and a digest of the journal.
-    fn strip<W: Write>(&self, out: &mut W, size: usize) -> io::Result<()> {
+    fn strip<P: Print>(&self, rt: &P, size: usize) -> io::Result<()> {
         let journal = &self.journal[..self.lent];
         let size = size.min(STRIP_ROOM);
         let mut strip = [b'.'; STRIP_ROOM];
         let OutputOutcome { refusal, length } = write_marks(journal, &mut strip[..size]).into();
-        write!(out, "{refusal} {length} |")?;
-        out.write_all(&strip)?;
-        write!(out, "|")?;
+        print!(rt; "{refusal} {length} |")?;
+        rt.write_all(&strip)?;
+        print!(rt; "|")?;
         strip.fill(b'.');
-        hand_back(out, journal, &mut strip[..size])?;
-        writeln!(out, " {} {}", digest(&strip), digest(&self.journal))
+        hand_back(rt, journal, &mut strip[..size])?;
+        println!(rt; " {} {}", digest(&strip), digest(&self.journal))
     }
 
     // Both forms of the wall page, each into an array of dots: the refusal, the length and a digest of the array; the refusal, length and digest of the part
     // handed back, and a digest of the array; and a digest of the journal.
-    fn report<W: Write>(&self, out: &mut W, size: usize) -> io::Result<()> {
+    fn report<P: Print>(&self, rt: &P, size: usize) -> io::Result<()> {
         let journal = &self.journal[..self.lent];
         let size = size.min(REPORT_ROOM);
         let mut page = [b'.'; REPORT_ROOM];
         let OutputOutcome { refusal, length } = write_report(journal, &mut page[..size]).into();
-        write!(out, "{refusal} {length} {}", digest(&page))?;
+        print!(rt; "{refusal} {length} {}", digest(&page))?;
         page.fill(b'.');
-        hand_back_report(out, journal, &mut page[..size])?;
-        writeln!(out, " {} {}", digest(&page), digest(&self.journal))
+        hand_back_report(rt, journal, &mut page[..size])?;
+        println!(rt; " {} {}", digest(&page), digest(&self.journal))
     }
 }

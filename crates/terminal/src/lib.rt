@@ -3,7 +3,7 @@
 // input, these steps print document 01's run.)
 #![tactic(auto)]
 
-ghost use Rattle.std.specs.Prelude.{◌≡◌, [], take, is_ok};
+ghost use Rattle.std.specs.Prelude.{◌≡◌, ◌≤◌, [], take, length, is_ok};
 ghost use Rattle.buffers.specs.Bytes.{zeros};
 ghost use Rattle.protocol.specs.Console.{held_at, journal_at, journal_at_end};
 ghost use Rattle.terminal.specs.Taken.{Taken, Stopped, Fetched, Answered, goes_on};
@@ -67,14 +67,15 @@ impl Calculator {
         input: &mut I,
         piece: &mut Piece,
     ) -> io::Result<()>
-        ensures { Taken (is_ok result) (take piece.new.size piece.new.space) self.old self.new }
+        ensures taken { Taken (is_ok result) (take piece.new.size piece.new.space) self.old self.new }
+        ensures within { piece.new.size ≤ length piece.new.space }
     {
         piece.size = input.read(&mut piece.space).unwrap_or(0);
         self.take_bytes(rt, &piece.space[..piece.size])
     }
 
     // Reads until the input ends or the output is closed, at most so many times. A proved loop must end, and nothing says that an input does.
-    #[tactic(auto, using(crate::proofs::Pieces::nothing_fetched, crate::proofs::Pieces::next_fetched, crate::proofs::Pieces::last_fetched, crate::proofs::Pieces::more_allowed))]
+    #[tactic(auto, using(crate::proofs::Pieces::nothing_fetched, crate::proofs::Pieces::next_fetched, crate::proofs::Pieces::last_fetched, crate::proofs::Pieces::more_allowed, crate::proofs::Pieces::nothing_spent, crate::proofs::Pieces::next_spent))]
     fn take_pieces<R: Print, I: Read>(
         &mut self,
         rt: &R,
@@ -83,7 +84,7 @@ impl Calculator {
         most: u64,
     ) -> Stop
         ensures fetched { Fetched most (goes_on result) (take piece.new.size piece.new.space) self.old self.new }
-        ensures stopped { Stopped result piece.new.size }
+        ensures stopped { Stopped result piece.new.size most self.old self.new }
     {
         piece.size = 0;
         for _read in 0..most {

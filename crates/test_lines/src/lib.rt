@@ -1,8 +1,9 @@
-// What the test programs share: the numbers of a line, how a status is printed, a digest, an array's size.
+// What the test programs share: the lines of the input and their numbers, how a status is printed, a digest, an array's size.
 #![tactic(auto)]
 
 ghost use Rattle.std.specs.Prelude.{◌≡◌, ◌+◌, ◌*◌, ◌%◌};
 
+pub mod input;
 pub mod numbers;
 pub mod shown;
 

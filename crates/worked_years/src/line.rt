@@ -1,10 +1,8 @@
 // What a line asks for.
-use anyhow::bail;
-use results::{count_in_range, result_of};
+use results::result_of;
 use rounding::Factor;
 use schedule::{needs, one_percent, periods};
-use std::alloc::Global;
-use test_lines::numbers::letter_and_numbers;
+use test_lines::numbers::{MOST_NUMBERS, setup_of};
 use year::{Event, Pair, Setup};
 
 #[derive(Clone, Copy)]
@@ -19,39 +17,45 @@ pub enum Line {
     Enter(Event),
     // the figures, also computed anew at this resolution
     Figures(u32),
+    // nothing
+    Nothing,
 }
 
 impl Line {
-    pub fn parse(alloc: Global, line: &str) -> anyhow::Result<Line> {
-        let (letter, numbers) = letter_and_numbers(alloc, line)?;
-        Ok(match (letter, numbers.as_slice()) {
-            (".", []) => Line::End,
-            ("r", &[kind, value, _, ref readings @ ..]) => Line::Number(rounded(
-                kind, value, readings,
-            )?),
-            ("d", &[volume, days]) => Line::Number(u64::from(periods(volume, days))),
-            ("n", &[period]) => Line::Number(u64::from(needs(period))),
-            ("c", &[volume]) => Line::Number(one_percent(volume)),
-            ("S", setup) => Line::Begin(Setup::from(<[u32; 8]>::try_from(setup)?)),
-            ("E", &[number, readings, hcnox, co]) => Line::Enter(Event::Engine {
+    // A line by its letter and its numbers.
+    pub fn parse(letter: u8, numbers: &[u32; MOST_NUMBERS]) -> Line {
+        match (letter, numbers) {
+            (b'.', _) => Line::End,
+            (b'r', &[kind, value, count, first, second, third, ..]) => Line::Number(rounded(
+                Factor { kind, value },
+                count,
+                &[first, second, third],
+            )),
+            (b'd', &[volume, days, ..]) => Line::Number(u64::from(periods(volume, days))),
+            (b'n', &[period, ..]) => Line::Number(u64::from(needs(period))),
+            (b'c', &[volume, ..]) => Line::Number(one_percent(volume)),
+            (b'S', _) => Line::Begin(setup_of(numbers)),
+            (b'E', &[number, readings, hcnox, co, ..]) => Line::Enter(Event::Engine {
                 number,
                 readings,
                 results: Pair { hcnox, co },
             }),
-            ("A", &[hcnox, co]) => Line::Enter(Event::Amendment(Pair { hcnox, co })),
-            ("P", []) => Line::Enter(Event::NextPeriod),
-            ("X", []) => Line::Enter(Event::Declaration),
-            ("Z", []) => Line::Enter(Event::Deletion),
-            ("F", &[resolution]) => Line::Figures(resolution),
-            _ => bail!("no such line: {line}"),
-        })
+            (b'A', &[hcnox, co, ..]) => Line::Enter(Event::Amendment(Pair { hcnox, co })),
+            (b'P', _) => Line::Enter(Event::NextPeriod),
+            (b'X', _) => Line::Enter(Event::Declaration),
+            (b'Z', _) => Line::Enter(Event::Deletion),
+            (b'F', &[resolution, ..]) => Line::Figures(resolution),
+            _ => Line::Nothing,
+        }
     }
 }
 
-// The result of an engine's readings under a factor.
-fn rounded(kind: u32, value: u32, readings: &[u32]) -> anyhow::Result<u64> {
-    if !count_in_range(readings.len()) {
-        bail!("{} readings", readings.len());
-    }
-    Ok(result_of(Factor { kind, value }, readings))
+// The result of one, two or, for any other count, three readings.
+fn rounded(factor: Factor, count: u32, readings: &[u32; 3]) -> u64 {
+    let count = match count {
+        1 => 1,
+        2 => 2,
+        _ => 3,
+    };
+    result_of(factor, &readings[..count])
 }

@@ -2,19 +2,20 @@
 // which works from documents 01 and 02 alone and describes the line format.
 #![tactic(auto)]
 
-use crate::work::obey;
-use std::io::{self, BufRead, BufReader, BufWriter, Write};
+use crate::work::{first_year, obey};
+use test_lines::input::read_line;
 
 mod line;
 mod work;
 
-fn main(rt: HostRuntime) -> anyhow::Result<()> {
-    let alloc = rt.alloc();
-    let mut out = BufWriter::new(alloc, io::writer(&rt))?;
-    let mut year = None;
-    for line in BufReader::new(alloc, rt.reader())?.lines(alloc) {
-        obey(&mut out, alloc, &mut year, &line?)?;
+// The most lines that are read. A proved loop must end, and nothing says that an input does.
+const MOST_LINES: u32 = 2000;
+
+fn main(rt: HostRuntime) {
+    let mut input = rt.reader();
+    let mut year = first_year();
+    for _ in 0..MOST_LINES {
+        // what nobody can read is not printed
+        let _ = obey(&rt, &mut year, read_line(&mut input).as_slice());
     }
-    out.flush()?;
-    Ok(())
 }
