@@ -76,11 +76,11 @@ room q xs k i x f more fine r w =
       fine = fine;
     }
 
--- of both pollutants
+-- of both pollutants, under any standards
 pub rooms : (xs : List Tested) (k i : ℕ) (x : Tested) (f : Pair Running) (t : Pair Test) → take (i + 1) xs ≡ take i xs ++ x ∷ [] → k ≤ 8192
     → ((q : Pollutant) → HistoryInRange 40 (history q (reverse xs)))
     → record { hcnox : f.hcnox ≡ running k (history Hcnox (reverse (take i xs))); co : f.co ≡ running k (history Co (reverse (take i xs))) }
-    → record { hcnox : t.hcnox ≡ record { result = x.results.hcnox; standard = x.standards.hcnox }; co : t.co ≡ record { result = x.results.co; standard = x.standards.co } }
+    → record { hcnox : t.hcnox.result ≡ x.results.hcnox; co : t.co.result ≡ x.results.co }
     → record { hcnox : RunningInRange k f.hcnox t.hcnox.result; co : RunningInRange k f.co t.co.result }
 rooms xs k i x f t more fine r w e =
     record { hcnox = rw e.hcnox (room Hcnox xs k i x f.hcnox more fine (r Hcnox) w.hcnox); co = rw e.co (room Co xs k i x f.co more fine (r Co) w.co) }

@@ -1,7 +1,7 @@
-// Reading a journal's slot: the event, if its bytes are in the one accepted form.
+// Reading a journal's slot: the event, if its bytes are in the one accepted form; and decoding any part of a journal, whatever its bytes.
 #![tactic(auto)]
 
-ghost use Rattle.std.specs.Prelude.{◌≡◌, cond};
+ghost use Rattle.std.specs.Prelude.{◌≡◌, ◌≤◌, cond, length};
 ghost use Rattle.journal.specs.Read.{event_in};
 ghost use Rattle.journal.specs.Acceptance.{is_slot};
 
@@ -28,5 +28,35 @@ pub fn read_slot(slot: &[u8; SLOT_SIZE]) -> Option<Event>
             _ => None,
         },
         _ => None,
+    }
+}
+
+// The event in the slot at the front of a part, in the accepted form or not.
+pub fn event_at(part: &[u8]) -> Event
+    requires { 8 ≤ length part.now }
+    ensures { result ≡ event_in part.now }
+{
+    match part[0] {
+        kind::ENGINE => Event::Engine {
+            number: number16(part, 6),
+            readings: u32::from(part[1]),
+            results: pair16(part, 2),
+        },
+        kind::AMENDMENT => Event::Amendment(pair16(part, 2)),
+        kind::NEXT_PERIOD => Event::NextPeriod,
+        kind::DELETION => Event::Deletion,
+        _ => Event::Declaration,
+    }
+}
+
+// Whether the slot at the front of a part has a named kind, and its unnamed bytes are zero.
+#[tactic(auto, using(crate::proofs::Slots::front_slot))]
+pub fn is_slot(part: &[u8]) -> bool
+    requires { 8 ≤ length part.now }
+    ensures { result ≡ is_slot part.now }
+{
+    match part.first_chunk() {
+        Some(slot) => read_slot(slot).is_some(),
+        None => false,
     }
 }

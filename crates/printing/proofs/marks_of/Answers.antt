@@ -1,5 +1,6 @@
-use Rattle.std.proofs.Common.{arith}
+use Rattle.std.proofs.Common.{ap, arith}
 use Rattle.std.proofs.lemmas.List.{take_more}
+use Rattle.statistics.specs.declared.Test.{Test}
 use Rattle.engines.proofs.Newest.{rooms}
 use Rattle.printing.proofs.Marked.{next}
 use Rattle.printing.proofs.marks_of.Goals as goal
@@ -8,7 +9,8 @@ pub add_tests-requires : goal.add_tests-requires
 add_tests-requires c =
     let i = c.loop-x.invariant in
     rooms c.args.engines.now c.args.resolution c.loop-x.x-index _ c.loop-x.figures c.tests.result (take_more c.args.engines.now c.loop-x.x-index _ c.loop-x-test.true)
-    c.requires.fine c.requires.histories (record { hcnox = i.hcnox; co = i.co }) c.tests.ensures
+    c.requires.fine c.requires.histories (record { hcnox = i.hcnox; co = i.co })
+    (record { hcnox = ap (λ (t : Test). t.result) c.tests.ensures.hcnox; co = ap (λ (t : Test). t.result) c.tests.ensures.co })
 
 pub loop-x-preserved : goal.loop-x-preserved
 loop-x-preserved c =
