@@ -16,7 +16,7 @@ use Rattle.reference.specs.Refused.{refused}
 use Rattle.reference.specs.Call.{EnterChange, Enter}
 use Rattle.reference.specs.Refusals.{refusals}
 use Rattle.slots.proofs.Year.{StandsFor}
-use Rattle.refusals.specs.Parts.{unfit_standards, standards_rows}
+use Rattle.refusals.specs.Parts.{unfit_standards, standards_rows, entry_rows}
 use Rattle.refusals.proofs.Decided.{own}
 use Rattle.change_decision.specs.Changes.{change_refusal}
 
@@ -26,9 +26,14 @@ change_rows change journal p year =
     ap (change_refusal change) year.year
     ∙ ap (λ model. first (from 17 (refusals (length journal) (Enter (EnterChange change)) model)) 0) (sym year.holds)
 
-pub standards_unfit : {A : Type 0} (change : Change) (r : Result A Refusal) → refused r ≡ first (standards_rows (EnterChange change)) 0
-    → is_err r ≡ unfit_standards (EnterChange change)
-standards_unfit change r e = by (unfit_standards (EnterChange change)) e
-  where
-    by : (unfit : Bool) → refused r ≡ cond unfit 5 0 → is_err r ≡ unfit
-    by unfit h = grind arith
+-- what its standards' test gives, unfit or not, is the test of row 5
+module _ {A : Type 0} (change : Change) (test : Result A Refusal) (given : refused test ≡ first (standards_rows (EnterChange change)) 0) where
+  is_unfit : is_err test ≡ unfit_standards (EnterChange change)
+  is_unfit = by (unfit_standards (EnterChange change)) given
+    where
+      by : (unfit : Bool) → refused test ≡ cond unfit 5 0 → is_err test ≡ unfit
+      by unfit h = grind arith
+
+  pub rows_tested : (journal : List ℕ) (unfit : Bool) → unfit ≡ is_err test
+      → first (entry_rows unfit journal) 0 ≡ first (entry_rows (unfit_standards (EnterChange change)) journal) 0
+  rows_tested journal unfit e = ap (λ b. first (entry_rows b journal) 0) (e ∙ is_unfit)

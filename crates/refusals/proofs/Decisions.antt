@@ -27,7 +27,7 @@ module _ (entry : Entry) (journal : List ℕ) where
   shared = entry_rows (unfit_standards entry) journal
 
   whole : refusal_on (Enter entry) journal ≡ first shared (own entry journal)
-  unfolding refusal refusals
+  unfolding refusal refusals entry_rows
   whole = refl
 
   -- one of the rows that all entries share
@@ -47,6 +47,7 @@ module _ (entry : Entry) (journal : List ℕ) where
   -- none of them: its own rows on the year that the journal holds
   pub own_decides : (p : Progress) → 0 ≡ first shared 0 → Some p ≡ year_of (read_journal journal) → (number : ℕ)
       → (StandsFor p (read_journal journal) → number ≡ own entry journal) → unless_refused number (event_of p entry) ≡ decision_on entry journal
+  unfolding entry_rows
   own_decides p none held number rows =
       let year = stands (read_journal journal) p held in
       let numbered : Numbered shared = omega arith in

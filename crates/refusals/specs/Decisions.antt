@@ -9,7 +9,7 @@ use Rattle.reference.specs.declared.Refusal.{Refusal}
 use Rattle.reference.specs.Refused.{named, unless_refused}
 use Rattle.reference.specs.Answers.{refusal_on}
 
--- the event that an accepted entry adds to the year, as `with_entry` of `Answers` writes it; without a setup each entry is refused
+-- the decision on an entry with this refusal, 0 for none: the event that it adds is the one that `with_entry` of `Answers` writes; without a setup it is refused
 abbrev pub decision : Entry → ℕ → Model → Result Event Refusal
 decision entry number NoSetup = Err (named number)
 decision entry number (Year s es) = unless_refused number (event_of (replay s es) entry)

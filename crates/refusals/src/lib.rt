@@ -120,13 +120,14 @@ pub fn open_year(journal: &[u8; JOURNAL_SIZE]) -> Result<Progress, Refusal>
 
 // Refusals 3, 7, 8 and 9, which can apply to every entry, on a buffer of any size, and in its place in the order 5, which applies if an amendment's standards are
 // unfit; otherwise the year that the journal holds.
+#[tactic(auto, using(crate::proofs::EntryRows::size_first, crate::proofs::EntryRows::then_unfit, crate::proofs::EntryRows::then_year))]
 pub fn entry_refusal(journal: &[u8], unfit: bool) -> Result<Progress, Refusal>
     ensures refusal { refused result ≡ first (entry_rows unfit journal.now) 0 }
     ensures year { IfOk result (λ p. Some p ≡ year_of (read_journal journal.now)) }
 {
-    let whole = journal.as_array().ok_or(Refusal::JournalSize)?;
+    let bytes = journal.as_array().ok_or(Refusal::JournalSize)?;
     if unfit {
         return Err(Refusal::StandardRange);
     }
-    open_year(whole)
+    open_year(bytes)
 }
