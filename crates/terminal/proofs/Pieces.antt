@@ -2,10 +2,10 @@
 use mathlib.Core.Path.{◌≡◌, refl, sym, ◌∙◌}
 use mathlib.Core.Bool.{Bool, true, false}
 use mathlib.Core.List.{List, [], ◌∷◌, ◌++◌}
-use Prim.Native.Nat.{ℕ, ◌+◌, ◌-◌, ◌^◌, ◌<◌, ◌≤◌}
+use Prim.Native.Nat.{ℕ, ◌+◌, ◌<◌, ◌≤◌}
 use native.Mathlib.Omega.{arith}
 use native.Mathlib.Numerals.{add-one}
-use lib.ListN.{length, take, get_or, length-append, length-take}
+use lib.ListN.{length, take, get_or}
 use lib.Seq.{take-suc}
 use Rattle.buffers.specs.Bytes.{zeros}
 use Rattle.protocol.specs.Console.{held_at, journal_at, held_after, journal_past, journal_at_end}
@@ -13,7 +13,7 @@ use Rattle.protocol.proofs.Console.{console}
 use Rattle.terminal.specs.declared.Calculator.{Calculator}
 use Rattle.terminal.specs.declared.Stop.{Stop}
 use Rattle.terminal.specs.declared.Stop.TheVariants.{InputEnded, OutputClosed, ReadsSpent}
-use Rattle.terminal.specs.Taken.{Kept, Taken, Fetched, Spent, Stopped, goes_on, start, Answered}
+use Rattle.terminal.specs.Taken.{Kept, Taken, Fetched, goes_on, start, Answered}
 
 held_on : (a b line : List ℕ) → held_after (a ++ b) line ≡ held_after b (held_after a line)
 held_on [] b line = refl
@@ -72,28 +72,10 @@ module _ {from mid : Calculator} {piece : List ℕ} {read : ℕ} where
       let g = next_fetched f none t in
       record { before = g.before; first = λ one. g.first (omega arith); between = g.between; earlier = g.earlier; last = g.last }
 
--- no read is made yet
-pub nothing_spent : (c : Calculator) → Spent 0 c c
-nothing_spent c = record { input = []; kept = record { holds = refl; leaves = refl }; enough = omega arith }
-
--- one more read is made, which returns a byte or more
-pub next_spent : (size : ℕ) (space : List ℕ) {read : ℕ} {from mid to : Calculator} → Spent read from mid → Taken true (take size space) mid to → (size ≡ 0 → ⊥)
-    → size ≤ length space → Spent (read + 1) from to
-next_spent size space s t some within =
-    let next = take size space in
-    record {
-      input = s.input ++ next;
-      kept = onto s.input next s.kept t;
-      enough = omega (arith, length-append s.input next, length-take size space, s.enough, some, within);
-    }
-
 module _ {from to : Calculator} (empty : from.line ≡ []) (zeroed : from.journal ≡ zeros 544) where
   -- from document 01's start, what was taken is some input
-  at-start : (input : List ℕ) → Kept input from to → Kept input start to
-  at-start input k = record { holds = rw empty at k.holds; leaves = rw (empty, zeroed) at k.leaves }
-
   from-start : (input : List ℕ) → Kept input from to → (i : List ℕ) × Kept i start to
-  from-start input k = (input, at-start input k)
+  from-start input k = (input, record { holds = rw empty at k.holds; leaves = rw (empty, zeroed) at k.leaves })
 
   some-input : {piece : List ℕ} {read : ℕ} (all : Bool) → Fetched read all piece from to → (input : List ℕ) × Kept input start to
   some-input {piece} true f = from-start (f.before ++ piece) (onto f.before piece f.earlier f.last)
@@ -106,8 +88,7 @@ module _ {from to : Calculator} (empty : from.line ≡ []) (zeroed : from.journa
       let k = some-input true f in
       all-answered k.0 k.1 same e
 
-  pub not_ended : {piece : List ℕ} {read : ℕ} (stop : Stop) (got : ℕ) → (stop ≡ InputEnded → ⊥) → Fetched read (goes_on stop) piece from to
-      → Stopped stop got (2 ^ 64 - 1) from to → Answered stop to
-  not_ended InputEnded got other f s = absurd (other refl)
-  not_ended OutputClosed got other f s = some-input false f
-  not_ended ReadsSpent got other f s = record { input = s.input; kept = at-start s.input s.kept; enough = s.enough }
+  pub not_ended : {piece : List ℕ} {read : ℕ} (stop : Stop) → (stop ≡ InputEnded → ⊥) → Fetched read (goes_on stop) piece from to → Answered stop to
+  not_ended InputEnded other f = absurd (other refl)
+  not_ended OutputClosed other f = some-input false f
+  not_ended ReadsSpent other f = some-input true f

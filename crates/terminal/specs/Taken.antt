@@ -1,5 +1,5 @@
 -- What is kept of the input (protocol, specs/Console). What a read returns, and whether a write succeeds, is I/O behaviour, outside the contracts.
-use Rattle.std.specs.Prelude.{◌≡◌, Bool, true, false, List, [], ℕ, ◌≤◌, ◌-◌, ◌^◌, length, take}
+use Rattle.std.specs.Prelude.{◌≡◌, Bool, true, false, List, [], ℕ, ◌≤◌, take}
 use Rattle.buffers.specs.Bytes.{zeros}
 use Rattle.protocol.specs.Run.{lines_of, journal_after_lines}
 use Rattle.protocol.specs.Console.{held_after, journal_past}
@@ -25,17 +25,11 @@ pub record Fetched (most : ℕ) (all : Bool) (piece : List ℕ) (from to : Calcu
   pub earlier : Kept before from between
   pub last : Taken all piece between to
 
--- some input was taken of at least so many bytes: as many as the reads that were made, each of which returned a byte or more
-pub record Spent (most : ℕ) (from to : Calculator) : Type 0 where
-  pub input : List ℕ
-  pub kept : Kept input from to
-  pub enough : most ≤ length input
-
 -- why no further read was made: the last one returned no byte, so the input has ended; the output is said to be closed; or no more reads may be made
-abbrev pub Stopped : Stop → ℕ → ℕ → Calculator → Calculator → Type 0
-Stopped InputEnded got most from to = got ≡ 0
-Stopped OutputClosed got most from to = Unit {0}
-Stopped ReadsSpent got most from to = Spent most from to
+abbrev pub Stopped : Stop → ℕ → ℕ → ℕ → Type 0
+Stopped InputEnded got reads most = got ≡ 0
+Stopped OutputClosed got reads most = Unit {0}
+Stopped ReadsSpent got reads most = reads ≡ most
 
 -- whether all of the last piece was taken
 abbrev pub goes_on : Stop → Bool
@@ -48,8 +42,8 @@ abbrev pub start : Calculator
 start = record { journal = zeros 544; line = [] }
 
 -- a run over some input, from document 01's starting state, by why it is said to have stopped. If the input has ended, every line is answered, the last one with
--- or without newline. If no more reads may be made, the input has a byte for each of the 2^64 - 1 reads
+-- or without newline
 abbrev pub Answered : Stop → Calculator → Type 0
 Answered InputEnded to = (input : List ℕ) × (to.line ≡ held_after input []) × (to.journal ≡ journal_after_lines (zeros 544) (lines_of input))
 Answered OutputClosed to = (input : List ℕ) × Kept input start to
-Answered ReadsSpent to = Spent (2 ^ 64 - 1) start to
+Answered ReadsSpent to = (input : List ℕ) × Kept input start to

@@ -3,7 +3,7 @@
 // input, these steps print document 01's run.)
 #![tactic(auto)]
 
-ghost use Rattle.std.specs.Prelude.{◌≡◌, ◌≤◌, [], take, length, is_ok};
+ghost use Rattle.std.specs.Prelude.{◌≡◌, ◌<◌, ◌+◌, ◌-◌, ◌^◌, [], take, is_ok};
 ghost use Rattle.buffers.specs.Bytes.{zeros};
 ghost use Rattle.protocol.specs.Console.{held_at, journal_at, journal_at_end};
 ghost use Rattle.terminal.specs.Taken.{Taken, Stopped, Fetched, Answered, goes_on};
@@ -16,11 +16,12 @@ use std::io::Read;
 // The largest number of bytes in one read.
 const PIECE_SIZE: usize = 4096;
 
-// What one read brought: its bytes, at the front of the space, so that the contracts can refer to them.
+// What one read brought: its bytes, at the front of the space, so that the contracts can refer to them; and how many reads were made.
 #[derive(Drop)]
 struct Piece {
     space: [u8; PIECE_SIZE],
     size: usize,
+    reads: u64,
 }
 
 // Why no further read is made.
@@ -67,15 +68,17 @@ impl Calculator {
         input: &mut I,
         piece: &mut Piece,
     ) -> io::Result<()>
+        requires { piece.old.reads < 2 ^ 64 - 1 }
         ensures taken { Taken (is_ok result) (take piece.new.size piece.new.space) self.old self.new }
-        ensures within { piece.new.size ≤ length piece.new.space }
+        ensures counted { piece.new.reads ≡ piece.old.reads + 1 }
     {
+        piece.reads += 1;
         piece.size = input.read(&mut piece.space).unwrap_or(0);
         self.take_bytes(rt, &piece.space[..piece.size])
     }
 
     // Reads until the input ends or the output is closed, at most so many times. A proved loop must end, and nothing says that an input does.
-    #[tactic(auto, using(crate::proofs::Pieces::nothing_fetched, crate::proofs::Pieces::next_fetched, crate::proofs::Pieces::last_fetched, crate::proofs::Pieces::more_allowed, crate::proofs::Pieces::nothing_spent, crate::proofs::Pieces::next_spent))]
+    #[tactic(auto, using(crate::proofs::Pieces::nothing_fetched, crate::proofs::Pieces::next_fetched, crate::proofs::Pieces::last_fetched, crate::proofs::Pieces::more_allowed))]
     fn take_pieces<R: Print, I: Read>(
         &mut self,
         rt: &R,
@@ -84,9 +87,10 @@ impl Calculator {
         most: u64,
     ) -> Stop
         ensures fetched { Fetched most (goes_on result) (take piece.new.size piece.new.space) self.old self.new }
-        ensures stopped { Stopped result piece.new.size most self.old self.new }
+        ensures stopped { Stopped result piece.new.size piece.new.reads most }
     {
         piece.size = 0;
+        piece.reads = 0;
         for _read in 0..most {
             if self.take_piece(rt, input, piece).is_err() {
                 return Stop::OutputClosed;
@@ -118,6 +122,7 @@ impl Calculator {
         let mut piece = Piece {
             space: [0; PIECE_SIZE],
             size: 0,
+            reads: 0,
         };
         let stop = self.take_pieces(rt, input, &mut piece, u64::MAX);
         if let Stop::InputEnded = stop {

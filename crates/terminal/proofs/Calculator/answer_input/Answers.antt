@@ -7,4 +7,4 @@ returns-in-InputEnded g c =
     rw c.in-InputEnded.is (ended c.requires.empty c.requires.zeroed c.in-InputEnded.ensures.fetched _ e.line_kept e.journal_after)
 
 pub returns-in_default : goal.returns-in_default
-returns-in_default g c = not_ended c.requires.empty c.requires.zeroed _ _ c.in_default.not-InputEnded c.take_pieces-stop.ensures.fetched c.take_pieces-stop.ensures.stopped
+returns-in_default g c = not_ended c.requires.empty c.requires.zeroed _ c.in_default.not-InputEnded c.take_pieces-stop.ensures.fetched
