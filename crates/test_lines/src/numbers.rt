@@ -37,25 +37,7 @@ pub fn numbers(line: &[u8]) -> [u32; MOST_NUMBERS]
 pub fn setup_of(numbers: &[u32; MOST_NUMBERS]) -> Setup
     ensures { result ≡ setup_of (take 8 numbers.now) }
 {
-    let &[
-        volume,
-        days,
-        hcnox,
-        co,
-        hcnox_kind,
-        hcnox_value,
-        co_kind,
-        co_value,
-        ..
-    ] = numbers;
-    Setup::from([
-        volume,
-        days,
-        hcnox,
-        co,
-        hcnox_kind,
-        hcnox_value,
-        co_kind,
-        co_value,
-    ])
+    let mut first = [0; 8];
+    first.copy_from_slice(&numbers[..8]);
+    Setup::from(first)
 }
